@@ -1,0 +1,39 @@
+# The main job, the tests and the measurements. README.md says what each needs.
+
+# The Rust that the library is compared with; the comparison is skipped where it is not there.
+NOMT_SRC ?= ../shared/docs/src/nomt/src
+export NOMT_SRC
+
+LIB := target/staticlib/libmopsienna.a
+ORACLE := cargo run --quiet --release --manifest-path oracle/Cargo.toml
+
+.PHONY: run test lib interface compare times
+
+# Builds the sizing program and runs it: on standard input, or on a sample where that is a terminal.
+run:
+	@rt check sizing </dev/null >/dev/null || { rt check sizing </dev/null; exit 1; }
+	@if [ -t 0 ]; then printf '1\n61381\n0\n7a\n' | target/bin/sizing; else target/bin/sizing; fi
+
+# Everything that a change must pass. The gate comes last, and proves all from nothing.
+test: interface
+	@if [ -d "$(NOMT_SRC)" ]; then $(ORACLE) -p compare -- --short; \
+	else echo "comparison with the Rust: skipped, there is no $(NOMT_SRC)"; fi
+	@rt ci
+
+# The static library, proved.
+lib:
+	@rt staticlib mopsienna >/dev/null || { rt staticlib mopsienna; exit 1; }
+
+# The C interface as a C program uses it, through the header.
+interface: lib
+	@cc -std=c11 -Wall -Wextra -Werror -O1 -Iinclude -o target/interface tests/interface.c $(LIB)
+	@target/interface
+
+# The library beside the Rust, at length.
+compare: lib
+	@$(ORACLE) -p compare -- $(ARGS)
+
+# How long each crate's check takes, from nothing.
+times:
+	@rm -rf target
+	@rt prove | grep -E '^rt: [a-z_]+ proved'

@@ -1,0 +1,2 @@
+-- What each function of the C interface puts into its `out`, in order.
+pub mod Totals

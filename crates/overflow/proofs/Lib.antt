@@ -1,0 +1,3 @@
+-- Laws about the definitions of this crate, for the proofs here and above.
+pub mod TotalsLaws
+pub mod LayoutLaws

@@ -1,0 +1,2 @@
+// Values that are kept in overflow pages: how many pages one takes, and what each page holds.
+pub mod total;

@@ -1,0 +1,76 @@
+// How many pages a value takes.
+ghost use mathlib.Core.Path.{_≡_};
+ghost use Prim.Native.Nat.{_≤_, min};
+ghost use Rattle.page.specs.PageSize.{PageSize, pageSize};
+ghost use Rattle.overflow.specs.Totals.{maxSize, rawPages, totalPages, pageTotal, totalOutcome};
+use page::PAGE_SIZE;
+use refusal::Refusal;
+
+// The largest value.
+pub const MAX_OVERFLOW_VALUE_SIZE: usize = 0x2000_0000;
+
+// A cell holds the numbers of so many pages.
+pub const MAX_OVERFLOW_CELL_NODE_POINTERS: usize = 15;
+
+// The pages of a value: all of them, those whose numbers go to the cell, and the bytes of their bodies that are not the value's.
+pub struct PageTotal {
+    pub total: usize,
+    pub cell: usize,
+    pub spare: usize,
+}
+
+pub enum Totalled {
+    Pages(PageTotal),
+    Refused(Refusal),
+}
+
+// The pages of a value, or refusal 10 for a size that no value has.
+pub fn page_total(size: u64) -> Totalled
+    ensures { λ r. ⌜ totalOutcome r ≡ pageTotal pageSize size ⌝ }
+{
+    if size == 0 {
+        return Totalled::Refused(Refusal::Size);
+    }
+    if 0x2000_0000 < size {
+        return Totalled::Refused(Refusal::Size);
+    }
+    let bytes = size as usize;
+    let total = total_needed_pages(PAGE_SIZE, bytes);
+    let cell = least(total, MAX_OVERFLOW_CELL_NODE_POINTERS);
+    let spare = (PAGE_SIZE - 4) * total - bytes;
+    Totalled::Pages(PageTotal { total, cell, spare })
+}
+
+// How many pages of `page_size` bytes a value takes, with the numbers that the cell has no place for.
+pub fn total_needed_pages(page_size: usize, size: usize) -> usize
+    requires { ⌜ PageSize «page_size» × (size ≤ maxSize) ⌝ }
+    ensures { λ r. ⌜ r ≡ totalPages «page_size» size ⌝ }
+{
+    let raw = needed_pages(page_size, size);
+    if raw <= MAX_OVERFLOW_CELL_NODE_POINTERS {
+        return raw;
+    }
+    let body = page_size - 4;
+    let numbers = raw - MAX_OVERFLOW_CELL_NODE_POINTERS;
+    let left = body * raw - size;
+    if numbers <= left / 4 {
+        return raw;
+    }
+    let missing = size + 4 * numbers - body * raw;
+    raw + (missing + (body - 3)) / (body - 4)
+}
+
+// How many pages the bytes alone would take.
+fn needed_pages(page_size: usize, size: usize) -> usize
+    requires { ⌜ PageSize «page_size» × (size ≤ maxSize) ⌝ }
+    ensures { λ r. ⌜ r ≡ rawPages «page_size» size ⌝ }
+{
+    let body = page_size - 4;
+    (size + (body - 1)) / body
+}
+
+fn least(a: usize, b: usize) -> usize
+    ensures { λ r. ⌜ r ≡ min a b ⌝ }
+{
+    if a < b { a } else { b }
+}

@@ -1,0 +1,19 @@
+-- What every page size has, and that document 01's is one.
+use Prim.Native.Nat.{ℕ, _*_, _/_, _≤_, _<_}
+use mathlib.Core.Path.{_≡_, refl}
+use native.Mathlib.Omega.{arith}
+use Rattle.page.specs.PageSize.{capacity, PageSize, pageSize}
+
+-- a page has 16 bytes or more
+pub page-least : {s : ℕ} → PageSize s → 16 ≤ s
+unfolding capacity
+page-least size = omega (arith, size .multiple, size .two-entries)
+
+-- a page is some whole number of 4-byte words
+pub page-words : {s : ℕ} → PageSize s → 4 * (s / 4) ≡ s
+page-words size = omega (arith, size .multiple)
+
+-- document 01's page size is one
+pub page-size : PageSize pageSize
+unfolding capacity
+page-size = record { multiple = refl; two-entries = omega arith; limit = omega arith }

@@ -1,0 +1,22 @@
+// How long a store is made for a page that it does not have.
+ghost use mathlib.Core.Path.{_≡_};
+ghost use Rattle.page.specs.Growth.{grow, grownOutcome};
+use crate::number::PageNumber;
+use refusal::Refusal;
+
+// The store's new length in pages, or refusal 7.
+pub enum Grown {
+    To(PageNumber),
+    Refused(Refusal),
+}
+
+// A store grows by 8,192 pages at a time; for a page that is a multiple of them, by as many more.
+pub fn grow(page: PageNumber) -> Grown
+    ensures { λ r. ⌜ grownOutcome r ≡ grow (page .0) ⌝ }
+{
+    let g = page.0;
+    if 4294950913 < g {
+        return Grown::Refused(Refusal::Limit);
+    }
+    Grown::To(PageNumber((g + 16382) / 8192 * 8192))
+}

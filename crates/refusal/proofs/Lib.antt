@@ -1,0 +1,2 @@
+-- Laws about outcomes and tests, for the proofs of the crates above.
+pub mod Cases

@@ -1,0 +1,30 @@
+-- The samples hold: each row computes.
+use mathlib.Core.Path.{refl}
+use Rattle.refusal.specs.Outcome.{answer}
+use Rattle.page.specs.Growth.{grow, grown, roundedUp}
+use Rattle.overflow.specs.Totals.{rawPages, totalPages}
+use Rattle.overflow.specs.Layout.{numbersBefore, numbersOn, bytesBefore, bytesOn}
+use Rattle.samples.specs.Samples.{Samples}
+
+pub samples : Samples
+unfolding grow grown roundedUp rawPages totalPages numbersBefore numbersOn bytesBefore bytesOn
+samples =
+    record {
+      grow-0 = refl;
+      grow-1 = refl;
+      grow-2 = refl;
+      grow-8193 = refl;
+      grow-8194 = refl;
+      total-61380 = refl;
+      total-61381 = refl;
+      total-65468 = refl;
+      total-65469 = refl;
+      total-4243402 = refl;
+      total-4243403 = refl;
+      total-4243404 = refl;
+      total-4243404-less-would-do = refl;
+      total-largest = refl;
+      layout-61381-numbers-0 = refl;
+      layout-61381-bytes-0 = refl;
+      layout-61381-bytes-15 = refl;
+    }

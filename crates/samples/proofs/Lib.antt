@@ -1,0 +1,2 @@
+-- The samples hold.
+pub mod Hold

@@ -1,0 +1,98 @@
+//! Compares libmopsienna with the Rust, one operation after another.
+//!
+//! Exits with 0 if they agree everywhere, 1 if they disagree, 2 if the comparison could not be
+//! made.
+
+mod grow;
+mod memory_file;
+mod random;
+mod report;
+mod self_test;
+mod totals;
+
+use std::{env, io, process::ExitCode};
+
+const USAGE: &str = "\
+usage: compare [--short] [--seed N] [--count N] [--self-test]
+  --short      about a second instead of about a minute
+  --seed N     the seed of the random cases
+  --count N    random cases for each operation
+  --self-test  see whether wrong replies are caught, over the short form";
+
+/// What is to be compared.
+pub struct Plan {
+    pub short: bool,
+    pub seed: u64,
+    pub count: u64,
+}
+
+struct Options {
+    plan: Plan,
+    self_test: bool,
+}
+
+fn main() -> ExitCode {
+    let Some(options) = options() else {
+        eprintln!("{USAGE}");
+        return ExitCode::from(2);
+    };
+    let agreed = if options.self_test {
+        self_test::run(&options.plan)
+    } else {
+        compare(&options.plan)
+    };
+    match agreed {
+        Ok(true) => ExitCode::SUCCESS,
+        Ok(false) => ExitCode::FAILURE,
+        Err(error) => {
+            eprintln!("{error}");
+            ExitCode::from(2)
+        }
+    }
+}
+
+/// Compares every operation. Tells whether all agree.
+fn compare(plan: &Plan) -> io::Result<bool> {
+    println!("seed {}, {} random cases each", plan.seed, plan.count);
+    let operations: [&dyn Fn() -> io::Result<report::Report>; 2] =
+        [&|| grow::compare(plan, mopsienna_sys::grow), &|| {
+            Ok(totals::compare(plan, mopsienna_sys::total))
+        }];
+    let mut agreed = true;
+    for operation in operations {
+        let report = operation()?;
+        println!("{report}");
+        agreed &= report.agrees();
+    }
+    Ok(agreed)
+}
+
+fn options() -> Option<Options> {
+    let mut short = false;
+    let mut self_test = false;
+    let mut seed = 1;
+    let mut count = None;
+
+    let mut arguments = env::args().skip(1);
+    while let Some(argument) = arguments.next() {
+        match argument.as_str() {
+            "--short" => short = true,
+            "--self-test" => self_test = true,
+            "--seed" => seed = arguments.next()?.parse().ok()?,
+            "--count" => count = Some(arguments.next()?.parse().ok()?),
+            _ => return None,
+        }
+    }
+
+    let short = short || self_test;
+    let default = match (self_test, short) {
+        (true, _) => 1_000,
+        (_, true) => 100_000,
+        _ => 5_000_000,
+    };
+    let count = count.unwrap_or(default);
+    Some(Options {
+        plan: Plan { short, seed, count },
+        self_test,
+    })
+}
