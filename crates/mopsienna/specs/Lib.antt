@@ -1,2 +1,3 @@
 -- What each function of the C interface puts into its `out`, in order.
+pub mod Lists
 pub mod Totals

@@ -1,14 +1,15 @@
 -- Laws of numbers in bytes, each for every width.
-use Prim.Native.Nat.{ℕ, zero, suc, _+_, _*_, _/_, _%_, _^_, _<_, _≤_}
+use Prim.Native.Nat.{ℕ, zero, suc, _+_, _*_, _-_, _/_, _%_, _^_, _<_, _≤_}
 use mathlib.Core.Path.{_≡_, refl, sym, _∙_, ap, ap₂}
-use mathlib.Core.List.{List, [], _∷_, _++_, append-assoc}
-use native.Mathlib.Nat.{zero-add, add-zero, suc-add, add-suc, add-assoc, pow-zero, pow-suc, pow-succ', div-one, div-div-eq-div-mul, div-lt-iff-lt-mul}
+use mathlib.Core.List.{List, [], _∷_, _++_, append-assoc, append-nil, List·Memᴰ, List·Memᴰ·head, List·Memᴰ·tail}
+use native.Mathlib.Nat.{le-of-suc-le-suc, not-suc-le-zero, mul-zero, mul-suc, zero-add, add-zero, suc-add, add-suc, add-assoc, pow-zero, pow-suc, pow-succ', div-one, div-div-eq-div-mul, div-lt-iff-lt-mul}
 use native.Mathlib.Numerals.{add-one}
 use native.Mathlib.Omega.{arith}
-use lib.ListN.{length, getD, take, drop, set, length-set, length-append, List·getD-append}
-use lib.Seq.{sets, getD-take, getD-drop, getD-append-add}
+use lib.ListN.{length, getD, take, drop, set, length-set, length-append, length-drop, List·getD-append}
+use lib.Seq.{sets, take-suc, length-take-le, getD-take, getD-drop, getD-append-add}
 use lib.Arith.{mod-mul}
-use Rattle.page.specs.Bytes.{numberAt, bytesOf}
+use Rattle.page.specs.Bytes.{numberAt, bytesOf, numbersAt, bytesOfAll}
+use Rattle.page.proofs.SetsLaws.{sets-append, sets-snoc}
 
 -- ---- reading
 
@@ -90,14 +91,85 @@ numberAt-bytesOf (suc w) n h =
     let rest : numberAt w (n % 256 ∷ bytesOf w (n / 256)) 1 ≡ n / 256 = numberAt-append-right w (n % 256 ∷ []) (bytesOf w (n / 256)) 0 ∙ numberAt-bytesOf w (n / 256) small in
     rw (zero-add, rest) (omega arith)
 
--- ---- stores to a list
+-- ---- several numbers
 
--- values written one after another, in two parts
-pub sets-append : (l : List ℕ) (i : ℕ) (xs ys : List ℕ) → sets l i (xs ++ ys) ≡ sets (sets l i xs) (i + length xs) ys
-sets-append l i [] ys = rw add-zero
-sets-append l i (x ∷ xs) ys = rw (sets-append (set l i x) (suc i) xs ys, suc-add, add-suc)
+pub length-numbersAt : (w : ℕ) (b : List ℕ) (i n : ℕ) → length (numbersAt w b i n) ≡ n
+unfolding numbersAt
+length-numbersAt w b i zero = refl
+length-numbersAt w b i (suc n) = ap suc (length-numbersAt w b (i + w) n)
+
+-- one number more is the one behind
+pub numbersAt-snoc : (w : ℕ) (b : List ℕ) (i n : ℕ) → numbersAt w b i (suc n) ≡ numbersAt w b i n ++ (numberAt w b (i + w * n) ∷ [])
+unfolding numbersAt
+numbersAt-snoc w b i zero = rw (mul-zero, add-zero)
+numbersAt-snoc w b i (suc n) =
+    let e : i + w + w * n ≡ i + w * suc n = omega (arith, mul-suc w n) in
+    rw (numbersAt-snoc w b (i + w) n, e)
+
+-- the k-th of them
+pub getD-numbersAt : (w : ℕ) (b : List ℕ) (i n k : ℕ) → k < n → getD (numbersAt w b i n) k 0 ≡ numberAt w b (i + w * k)
+unfolding numbersAt
+getD-numbersAt w b i zero k h = absurd (not-suc-le-zero h)
+getD-numbersAt w b i (suc n) zero h = rw (mul-zero, add-zero)
+getD-numbersAt w b i (suc n) (suc k) h =
+    let e : i + w + w * k ≡ i + w * suc k = omega (arith, mul-suc w k) in
+    rw (← e) (getD-numbersAt w b (i + w) n k (le-of-suc-le-suc h))
+
+-- they depend only on the bytes in use
+pub numbersAt-same : (w : ℕ) (a b : List ℕ) (i j n : ℕ) → ((k : ℕ) → k < w * n → getD a (i + k) 0 ≡ getD b (j + k) 0) → numbersAt w a i n ≡ numbersAt w b j n
+unfolding numbersAt
+numbersAt-same w a b i j zero same = refl
+numbersAt-same w a b i j (suc n) same =
+    ap₂ (λ (x : ℕ) (xs : List ℕ). x ∷ xs) (numberAt-same w a b i j (λ k h. same k (omega (arith, mul-suc w n)))) (numbersAt-same w a b (i + w) (j + w) n next)
+  where
+    next : (k : ℕ) → k < w * n → getD a (i + w + k) 0 ≡ getD b (j + w + k) 0
+    next k h = rw (add-assoc i w k, add-assoc j w k) (same (w + k) (omega (arith, mul-suc w n)))
+
+pub length-bytesOfAll : (w : ℕ) (ns : List ℕ) → length (bytesOfAll w ns) ≡ w * length ns
+unfolding bytesOfAll
+length-bytesOfAll w [] = rw mul-zero
+length-bytesOfAll w (n ∷ ns) = omega (arith, length-append (bytesOf w n) (bytesOfAll w ns), length-bytesOf w n, length-bytesOfAll w ns, mul-suc w (length ns))
+
+pub bytesOfAll-append : (w : ℕ) (ms ns : List ℕ) → bytesOfAll w (ms ++ ns) ≡ bytesOfAll w ms ++ bytesOfAll w ns
+unfolding bytesOfAll
+bytesOfAll-append w [] ns = refl
+bytesOfAll-append w (m ∷ ms) ns = rw (bytesOfAll-append w ms ns, append-assoc)
+
+-- numbers that fit are read back, whatever stands behind them
+pub numbersAt-bytesOfAll : (w : ℕ) (ns rest : List ℕ) → ((n : ℕ) → List·Memᴰ n ns → n < 256 ^ w) → numbersAt w (bytesOfAll w ns ++ rest) 0 (length ns) ≡ ns
+unfolding numbersAt bytesOfAll
+numbersAt-bytesOfAll w [] rest fit = refl
+numbersAt-bytesOfAll w (n ∷ ns) rest fit =
+    rw append-assoc
+    (ap₂ (λ (x : ℕ) (xs : List ℕ). x ∷ xs)
+    (numberAt-append-left w (bytesOf w n) (bytesOfAll w ns ++ rest) 0 (omega (arith, length-bytesOf w n)) ∙ numberAt-bytesOf w n (fit n (List·Memᴰ·head refl)))
+    (numbersAt-same w (bytesOf w n ++ (bytesOfAll w ns ++ rest)) (bytesOfAll w ns ++ rest) (0 + w) 0 (length ns) behind ∙ numbersAt-bytesOfAll w ns rest (λ m t. fit m (List·Memᴰ·tail t))))
+  where
+    behind : (k : ℕ) → k < w * length ns → getD (bytesOf w n ++ (bytesOfAll w ns ++ rest)) (0 + w + k) 0 ≡ getD (bytesOfAll w ns ++ rest) (0 + k) 0
+    behind k h =
+        let e : 0 + w + k ≡ length (bytesOf w n) + k = omega (arith, length-bytesOf w n) in
+        rw (e, zero-add k) (getD-append-add (bytesOf w n) (bytesOfAll w ns ++ rest) k 0)
+
+-- ---- numbers written one after another
 
 -- a number of 2w bytes is written as its lower half and then its upper
 pub written-halves : (w n i : ℕ) (l m r : List ℕ) → m ≡ sets l i (bytesOf w (n % 256 ^ w)) → r ≡ sets m (i + w) (bytesOf w (n / 256 ^ w)) → r ≡ sets l i (bytesOf (w + w) n)
 written-halves w n i l m r lower upper =
     rw (bytesOf-add w w n, sets-append l i (bytesOf w n), length-bytesOf w n, ← bytesOf-mod w n, ← lower) upper
+
+-- a table that holds the first i numbers, with one more stored behind them
+pub numbers-more : (w : ℕ) (l m b : List ℕ) (at to i x : ℕ) → m ≡ sets l to (numbersAt w b at i) → x ≡ numberAt w b (at + w * i)
+    → set m (to + i) x ≡ sets l to (numbersAt w b at (i + 1))
+numbers-more w l m b at to i x e f =
+    rw (add-one, numbersAt-snoc w b at i, sets-snoc l to (numbersAt w b at i) (numberAt w b (at + w * i)) i (length-numbersAt w b at i), ← e, f)
+
+-- bytes that hold the first i numbers of a table, with one more written behind them
+pub bytes-more : (w : ℕ) (l m r table : List ℕ) (from at i : ℕ) → from + i < length table → m ≡ sets l at (bytesOfAll w (take i (drop from table)))
+    → r ≡ sets m (at + w * i) (bytesOf w (getD table (from + i) 0)) → r ≡ sets l at (bytesOfAll w (take (i + 1) (drop from table)))
+unfolding bytesOfAll
+bytes-more w l m r table from at i h e f =
+    let first = take i (drop from table) in
+    let inside : i < length (drop from table) = omega (arith, length-drop from table) in
+    let more : take (i + 1) (drop from table) ≡ first ++ (getD table (from + i) 0 ∷ []) = rw (add-one, take-suc (drop from table) i 0 inside, getD-drop) in
+    let long : length (bytesOfAll w first) ≡ w * i = rw (length-bytesOfAll, length-take-le i (drop from table) (omega (arith, length-drop from table))) in
+    rw (more, bytesOfAll-append w first, append-nil, sets-append l at (bytesOfAll w first), long, ← e) f

@@ -37,3 +37,8 @@ or-true false b e = inr e
 pub or-false : (a b : Bool) → a || b ≡ false → (a ≡ false) × (b ≡ false)
 or-false true b e = let z : _≡_ {A = ℕ} 0 1 = cc in absurd (omega arith)
 or-false false b e = (refl, e)
+
+-- a refusal where answers are only carried over
+pub withAnswer-refused : {A B : Type 0} (f : A → B) (o : Outcome A) {n : ℕ} {vs : List ℕ} → withAnswer (λ a. answer (f a)) o ≡ refused n vs → o ≡ refused n vs
+withAnswer-refused f (answer a) e = let z : _≡_ {A = ℕ} 0 1 = cc in absurd (omega arith)
+withAnswer-refused f (refused n vs) e = cc

@@ -1,0 +1,5 @@
+-- Laws about the definitions of this crate, for the proofs here and above.
+pub mod ListPagesLaws
+pub mod ReadingLaws
+pub mod FillingLaws
+pub mod IntoLaws

@@ -1,0 +1,38 @@
+-- `count_fits` meets its contract: its tests are the definition's, in order.
+-- Assumes nothing.
+use borrow.Author.Tests.{le-leb, lt-leb, eq-eqb, ne-eqb}
+use Rattle.free_list.specs.Reading.{countFits}
+use borrow.Author.Needs.{needs}
+use Rattle.free_list.proofs.walk.count_fits.Statement.{statement}
+use Rattle.free_list.proofs.walk.count_fits.Tie as tie
+
+returns : tie.Need-returns
+unfolding countFits
+returns c = simp (eq-eqb _ _ (c .before .if1 .taken), le-leb _ _ (c .if2 .taken))
+
+returns-2 : tie.Need-returns-2
+unfolding countFits
+returns-2 c = simp (eq-eqb _ _ (c .before .if1 .taken), lt-leb _ _ (c .if2 .left))
+
+add-result : tie.Need-add-result
+add-result c = search needs
+
+returns-3 : tie.Need-returns-3
+unfolding countFits
+returns-3 c = simp (ne-eqb _ _ (c .before .if1 .left), eq-eqb _ _ (c .if3 .taken))
+
+returns-4 : tie.Need-returns-4
+unfolding countFits
+returns-4 c = simp (ne-eqb _ _ (c .before .before .before .if1 .left), ne-eqb _ _ (c .before .before .if3 .left), eq-eqb _ _ (c .before .if4 .taken), eq-eqb _ _ (c .if5 .taken))
+
+returns-5 : tie.Need-returns-5
+unfolding countFits
+returns-5 c = simp (ne-eqb _ _ (c .before .before .before .if1 .left), ne-eqb _ _ (c .before .before .if3 .left), eq-eqb _ _ (c .before .if4 .taken), ne-eqb _ _ (c .if5 .left))
+
+returns-6 : tie.Need-returns-6
+unfolding countFits
+returns-6 c = simp (ne-eqb _ _ (c .before .before .if1 .left), ne-eqb _ _ (c .before .if3 .left), ne-eqb _ _ (c .if4 .left))
+
+pub count-fits-spec : {M : Type 1} → statement M
+count-fits-spec =
+    tie.close (tie.spec returns returns-2 add-result returns-3 returns-4 returns-5 returns-6)

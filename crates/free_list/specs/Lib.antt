@@ -1,0 +1,6 @@
+-- List pages as bytes (`ListPages`), the shape of a list (`Shape`), reading a list (`Reading`), and the parts of the reader's work
+-- (`Steps`), which only its private functions cite.
+pub mod ListPages
+pub mod Shape
+pub mod Reading
+pub mod Steps

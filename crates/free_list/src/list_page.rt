@@ -1,0 +1,67 @@
+// A list page: bytes 0-3 the previous list page, 4-5 the count of entries, then the entries, four bytes each.
+//
+// These are leaves for sibling crates: each asks that what it reads or writes lies within the page.
+ghost use mathlib.Core.Path.{_≡_};
+ghost use Prim.Native.Nat.{_+_, _*_, _≤_};
+ghost use lib.ListN.{length, take, drop};
+ghost use Rattle.page.specs.Bytes.{numberAt};
+ghost use Rattle.page.specs.PageSize.{PageSize, capacity};
+ghost use Rattle.free_list.specs.ListPages.{prevOf, countOf, encodeListPage};
+use page::fill::clear;
+use page::little_endian::read_u16;
+use page::little_endian::read_u32;
+use page::little_endian::write_numbers;
+use page::little_endian::write_u16;
+use page::little_endian::write_u32;
+use page::number::PageNumber;
+
+// The number of the previous list page.
+pub fn prev_pn(page: &[u8]) -> PageNumber
+    requires { ⌜ 6 ≤ length (now page) ⌝ }
+    ensures { λ r. ⌜ r .0 ≡ prevOf (now (page .entry)) ⌝ }
+{
+    PageNumber(read_u32(page, 0))
+}
+
+// The count of entries.
+pub fn item_count(page: &[u8]) -> u16
+    requires { ⌜ 6 ≤ length (now page) ⌝ }
+    ensures { λ r. ⌜ r ≡ countOf (now (page .entry)) ⌝ }
+{
+    read_u16(page, 4)
+}
+
+// Entry i.
+pub fn item(page: &[u8], i: usize) -> PageNumber
+    requires { ⌜ 10 + 4 * i ≤ length (now page) ⌝ }
+    ensures { λ r. ⌜ r .0 ≡ numberAt 4 (now (page .entry)) (6 + 4 * i) ⌝ }
+{
+    PageNumber(read_u32(page, 6 + 4 * i))
+}
+
+// How many entries a list page of `size` bytes holds at most.
+pub fn max_pns_per_page(size: usize) -> usize
+    requires { ⌜ PageSize size ⌝ }
+    ensures { λ r. ⌜ r ≡ capacity size ⌝ }
+{
+    (size - 6) / 4
+}
+
+// Makes a whole page of n entries of the table, from place `from` on.
+pub fn encode_free_list_page(
+    size: usize,
+    prev: PageNumber,
+    entries: &[u32],
+    from: usize,
+    n: usize,
+    page: &mut [u8],
+)
+    requires { ⌜ PageSize size × (length (now page) ≡ size) × (n ≤ capacity size) × (from + n ≤ length (now entries)) ⌝ }
+    ensures { λ _. ⌜ now (page .exit) ≡ encodeListPage size (prev .0) (take n (drop from (now (entries .entry)))) ⌝ }
+{
+    let before = prev.0;
+    write_u32(page, 0, before);
+    write_u16(page, 4, n as u16);
+    write_numbers(entries, from, n, page, 6);
+    clear(page, 6 + 4 * n, size);
+}
