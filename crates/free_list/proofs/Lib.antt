@@ -3,3 +3,4 @@ pub mod ListPagesLaws
 pub mod ReadingLaws
 pub mod FillingLaws
 pub mod IntoLaws
+pub mod ShapeLaws

@@ -2,12 +2,17 @@
 use mathlib.Core.Path.{refl}
 use Rattle.refusal.specs.Outcome.{answer}
 use Rattle.page.specs.Growth.{grow, grown, roundedUp}
+use Rattle.page.specs.Bytes.{numberAt, numbersAt}
+use Rattle.page.specs.PageSize.{capacity}
+use Rattle.page.specs.Pages.{pageCount, pageAt}
+use Rattle.free_list.specs.ListPages.{prevOf, countOf, entriesOf}
+use Rattle.free_list.specs.Reading.{countFits, entriesFit, readFrom, readList}
 use Rattle.overflow.specs.Totals.{rawPages, totalPages}
 use Rattle.overflow.specs.Layout.{numbersBefore, numbersOn, bytesBefore, bytesOn}
 use Rattle.samples.specs.Samples.{Samples}
 
 pub samples : Samples
-unfolding grow grown roundedUp rawPages totalPages numbersBefore numbersOn bytesBefore bytesOn
+unfolding numberAt numbersAt capacity pageCount pageAt prevOf countOf entriesOf countFits entriesFit readFrom readList grow grown roundedUp rawPages totalPages numbersBefore numbersOn bytesBefore bytesOn
 samples =
     record {
       grow-0 = refl;
@@ -15,6 +20,7 @@ samples =
       grow-2 = refl;
       grow-8193 = refl;
       grow-8194 = refl;
+      list-read = refl;
       total-61380 = refl;
       total-61381 = refl;
       total-65468 = refl;

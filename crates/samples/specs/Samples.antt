@@ -1,9 +1,13 @@
 -- Document 01's marked samples: one row each, at document 01's page size.
 use Prim.Native.Nat.{ℕ, _+_, _*_, _-_, _^_}
 use mathlib.Core.Path.{_≡_}
+use mathlib.Core.List.{List, [], _∷_, _++_}
+use lib.ListN.{replicate}
 use Rattle.refusal.specs.Outcome.{Outcome, answer}
 use Rattle.page.specs.PageSize.{pageSize}
 use Rattle.page.specs.Growth.{grow}
+use Rattle.free_list.specs.Shape.{FreeList}
+use Rattle.free_list.specs.Reading.{readList}
 use Rattle.overflow.specs.Totals.{cellNumbers, body, totalPages}
 use Rattle.overflow.specs.Layout.{numbersOn, bytesOn}
 
@@ -17,12 +21,23 @@ numbers size i = numbersOn pageSize (total size) i
 abbrev pub bytes : ℕ → ℕ → ℕ
 bytes size i = bytesOn pageSize (total size) size i
 
+-- a store of 22 pages with list page 10, which has entries 20, 21; all other bytes are zero
+abbrev pub store : List ℕ
+store =
+    replicate (pageSize * 10) 0
+    ++ (0 ∷ 0 ∷ 0 ∷ 0 ∷ 2 ∷ 0 ∷ 20 ∷ 0 ∷ 0 ∷ 0 ∷ 21 ∷ 0 ∷ 0 ∷ 0 ∷ [])
+    ++ replicate (pageSize * 12 - 14) 0
+
+abbrev pub list : List ℕ → List ℕ → FreeList
+list pages entries = record { pages = pages; entries = entries }
+
 pub record Samples : Type 0 where
   pub grow-0 : grow 0 ≡ answer 8192
   pub grow-1 : grow 1 ≡ answer 8192
   pub grow-2 : grow 2 ≡ answer 16384
   pub grow-8193 : grow 8193 ≡ answer 16384
   pub grow-8194 : grow 8194 ≡ answer 24576
+  pub list-read : readList pageSize store 10 ≡ answer (list (10 ∷ []) (20 ∷ 21 ∷ []))
   pub total-61380 : total 61380 ≡ 15
   pub total-61381 : total 61381 ≡ 16
   pub total-65468 : total 65468 ≡ 16
