@@ -7,12 +7,16 @@ use Rattle.page.specs.PageSize.{capacity}
 use Rattle.page.specs.Pages.{pageCount, pageAt}
 use Rattle.free_list.specs.ListPages.{prevOf, countOf, entriesOf}
 use Rattle.free_list.specs.Reading.{countFits, entriesFit, readFrom, readList}
+use Rattle.free_list.specs.Shape.{isShape, isFragmented, entriesBelow, entriesOn}
+use Rattle.preallocate.specs.Plan.{pagesFor, room, pagesAfter, pushedAfter, firstPlan, nextPlan, enoughRoom, planOf}
+use Rattle.allocator.specs.OpenSave.{stateFits, nextNumber, nextRecorded, handOut}
+use Rattle.allocator.specs.Finish.{newList, encodedPage, encodedPages, carriedOut, finishList, finished}
 use Rattle.overflow.specs.Totals.{rawPages, totalPages}
 use Rattle.overflow.specs.Layout.{numbersBefore, numbersOn, bytesBefore, bytesOn}
 use Rattle.samples.specs.Samples.{Samples}
 
 pub samples : Samples
-unfolding numberAt numbersAt capacity pageCount pageAt prevOf countOf entriesOf countFits entriesFit readFrom readList grow grown roundedUp rawPages totalPages numbersBefore numbersOn bytesBefore bytesOn
+unfolding numberAt numbersAt capacity pageCount pageAt prevOf countOf entriesOf countFits entriesFit readFrom readList isShape isFragmented entriesBelow entriesOn pagesFor room pagesAfter pushedAfter firstPlan nextPlan enoughRoom planOf stateFits nextNumber nextRecorded handOut newList encodedPage encodedPages carriedOut finishList finished grow grown roundedUp rawPages totalPages numbersBefore numbersOn bytesBefore bytesOn
 samples =
     record {
       grow-0 = refl;
@@ -21,6 +25,13 @@ samples =
       grow-8193 = refl;
       grow-8194 = refl;
       list-read = refl;
+      handed-out-first = refl;
+      handed-out-second = refl;
+      finish-popped-and-freed = refl;
+      finish-freed = refl;
+      finish-empty-list = refl;
+      finish-empty-list-freed = refl;
+      finish-all-popped = refl;
       total-61380 = refl;
       total-61381 = refl;
       total-65468 = refl;

@@ -2,12 +2,16 @@
 use Prim.Native.Nat.{ℕ, _+_, _*_, _-_, _^_}
 use mathlib.Core.Path.{_≡_}
 use mathlib.Core.List.{List, [], _∷_, _++_}
-use lib.ListN.{replicate}
+use lib.ListN.{length, replicate}
 use Rattle.refusal.specs.Outcome.{Outcome, answer}
 use Rattle.page.specs.PageSize.{pageSize}
 use Rattle.page.specs.Growth.{grow}
+use Rattle.page.specs.Pages.{Write}
+use Rattle.free_list.specs.ListPages.{encodeListPage}
 use Rattle.free_list.specs.Shape.{FreeList}
 use Rattle.free_list.specs.Reading.{readList}
+use Rattle.allocator.specs.OpenSave.{Save, HandedOut, handOut}
+use Rattle.allocator.specs.Finish.{Finished, finished}
 use Rattle.overflow.specs.Totals.{cellNumbers, body, totalPages}
 use Rattle.overflow.specs.Layout.{numbersOn, bytesOn}
 
@@ -31,6 +35,37 @@ store =
 abbrev pub list : List ℕ → List ℕ → FreeList
 list pages entries = record { pages = pages; entries = entries }
 
+-- an open save of a list, with this bump and a recorded length of 8,192, which has handed out n numbers
+abbrev pub save : FreeList → ℕ → ℕ → Save
+save l bump n =
+    record {
+      pageTable = l .pages;
+      entryTable = l .entries;
+      P = length (l .pages);
+      L = length (l .entries);
+      bump = bump;
+      recorded = 8192;
+      handed = n;
+    }
+
+-- the next number, after n
+abbrev pub next : FreeList → ℕ → ℕ → Outcome HandedOut
+next l bump n = handOut pageSize (save l bump n)
+
+abbrev pub handed : ℕ → Save → Outcome HandedOut
+handed number v = answer (record { number = number; save = v })
+
+-- the save is finished with these numbers freed, and what comes of it: the list, the bump and the pages written
+abbrev pub finish : FreeList → ℕ → ℕ → List ℕ → Finished
+finish l bump n freed = finished pageSize (save l bump n) freed
+
+abbrev pub becomes : FreeList → ℕ → List Write → Finished
+becomes l bump written = record { list = l; bump = bump; written = written }
+
+-- a page that is written: its number, the previous page and the entries
+abbrev pub page : ℕ → ℕ → List ℕ → Write
+page number prev entries = record { number = number; bytes = encodeListPage pageSize prev entries }
+
 pub record Samples : Type 0 where
   pub grow-0 : grow 0 ≡ answer 8192
   pub grow-1 : grow 1 ≡ answer 8192
@@ -38,6 +73,15 @@ pub record Samples : Type 0 where
   pub grow-8193 : grow 8193 ≡ answer 16384
   pub grow-8194 : grow 8194 ≡ answer 24576
   pub list-read : readList pageSize store 10 ≡ answer (list (10 ∷ []) (20 ∷ 21 ∷ []))
+  pub handed-out-first : next (list (10 ∷ []) (20 ∷ 21 ∷ [])) 30 0 ≡ handed 21 (save (list (10 ∷ []) (20 ∷ 21 ∷ [])) 30 1)
+  pub handed-out-second : next (list (10 ∷ []) (20 ∷ 21 ∷ [])) 30 1 ≡ handed 20 (save (list (10 ∷ []) (20 ∷ 21 ∷ [])) 30 2)
+  pub finish-popped-and-freed :
+      finish (list (10 ∷ []) (20 ∷ 21 ∷ [])) 30 1 (15 ∷ []) ≡ becomes (list (20 ∷ []) (15 ∷ 10 ∷ [])) 30 (page 20 0 (15 ∷ 10 ∷ []) ∷ [])
+  pub finish-freed :
+      finish (list (10 ∷ []) (20 ∷ 21 ∷ [])) 30 0 (15 ∷ []) ≡ becomes (list (21 ∷ []) (20 ∷ 15 ∷ 10 ∷ [])) 30 (page 21 0 (20 ∷ 15 ∷ 10 ∷ []) ∷ [])
+  pub finish-empty-list : finish (list [] []) 30 2 [] ≡ becomes (list [] []) 32 []
+  pub finish-empty-list-freed : finish (list [] []) 30 0 (5 ∷ []) ≡ becomes (list (30 ∷ []) (5 ∷ [])) 31 (page 30 0 (5 ∷ []) ∷ [])
+  pub finish-all-popped : finish (list (10 ∷ []) (20 ∷ [])) 30 3 [] ≡ becomes (list (32 ∷ []) (10 ∷ [])) 33 (page 32 0 (10 ∷ []) ∷ [])
   pub total-61380 : total 61380 ≡ 15
   pub total-61381 : total 61381 ≡ 16
   pub total-65468 : total 65468 ≡ 16

@@ -1,0 +1,2 @@
+-- Which list pages a finish keeps, takes and gives back (`Plan`).
+pub mod Plan
