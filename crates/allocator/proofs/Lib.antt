@@ -1,2 +1,4 @@
 -- Laws about the definitions of this crate, for the proofs here and above.
 pub mod SaveLaws
+pub mod TablesLaws
+pub mod EncodeLaws

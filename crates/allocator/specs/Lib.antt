@@ -2,3 +2,4 @@
 pub mod OpenSave
 pub mod Answers
 pub mod Finish
+pub mod Steps

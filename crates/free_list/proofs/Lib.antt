@@ -4,3 +4,4 @@ pub mod ReadingLaws
 pub mod FillingLaws
 pub mod IntoLaws
 pub mod ShapeLaws
+pub mod BelowLaws

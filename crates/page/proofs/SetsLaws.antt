@@ -2,11 +2,12 @@
 use Prim.Native.Nat.{ℕ, zero, suc, _+_, _-_, _≤_, _<_}
 use mathlib.Core.Path.{_≡_, refl, sym, _∙_, ap}
 use mathlib.Core.Logic.{_≢_}
-use mathlib.Core.List.{List, [], _∷_, _++_, append-nil}
+use mathlib.Core.List.{List, [], _∷_, _++_, append-nil, append-assoc}
 use native.Mathlib.Nat.{add-zero, zero-add, suc-add, add-suc}
 use native.Mathlib.Omega.{arith}
-use lib.ListN.{length, take, drop, set, replicate, length-replicate, replicate-append-replicate, drop-of-length-le}
-use lib.Seq.{sets, sets-eq, set-comm}
+use borrow.Rule.Slice.PartMut.{putMid}
+use lib.ListN.{length, getD, take, drop, set, length-set, take-append-drop, replicate, length-replicate, replicate-append-replicate, drop-of-length-le}
+use lib.Seq.{sets, sets-eq, drop-drop, set-set, set-comm, getD-set-same, getD-set-other, length-take-le}
 
 -- in two parts
 pub sets-append : (l : List ℕ) (i : ℕ) (xs ys : List ℕ) → sets l i (xs ++ ys) ≡ sets (sets l i xs) (i + length xs) ys
@@ -43,3 +44,41 @@ pub sets-comm : (l : List ℕ) (i : ℕ) (xs : List ℕ) (j : ℕ) (ys : List �
 sets-comm l i xs j [] h = refl
 sets-comm l i xs j (y ∷ ys) h =
     sets-comm (set l j y) i xs (suc j) ys (omega arith) ∙ ap (λ (m : List ℕ). sets m (suc j) ys) (set-sets l i xs j y h)
+
+-- a place before those that are written
+pub getD-sets-before : (l : List ℕ) (i : ℕ) (xs : List ℕ) (j d : ℕ) → j < i → getD (sets l i xs) j d ≡ getD l j d
+getD-sets-before l i [] j d h = refl
+getD-sets-before l i (x ∷ xs) j d h =
+    let ne : j ≢ i = omega arith in
+    getD-sets-before (set l i x) (suc i) xs j d (omega arith) ∙ getD-set-other l i j x d ne
+
+pub set-sets-before : (l : List ℕ) (i : ℕ) (xs : List ℕ) (j x : ℕ) → j < i → set (sets l i xs) j x ≡ sets (set l j x) i xs
+set-sets-before l i [] j x h = refl
+set-sets-before l i (y ∷ ys) j x h =
+    let ne : i ≢ j = omega arith in
+    set-sets-before (set l i y) (suc i) ys j x (omega arith) ∙ ap (λ (m : List ℕ). sets m (suc i) ys) (set-comm l i j y x ne)
+
+-- the first two of those that are written change places
+pub sets-swapped : (l : List ℕ) (i x y : ℕ) (ns : List ℕ) → suc i < length l
+    → set (set (sets l i (x ∷ y ∷ ns)) i (getD (sets l i (x ∷ y ∷ ns)) (suc i) 0)) (suc i) (getD (sets l i (x ∷ y ∷ ns)) i 0) ≡ sets l i (y ∷ x ∷ ns)
+sets-swapped l i x y ns h =
+    let m = set (set l i x) (suc i) y in
+    let ne : i ≢ suc i = omega arith in
+    let en : suc i ≢ i = omega arith in
+    let first : getD (sets m (suc (suc i)) ns) i 0 ≡ x =
+    getD-sets-before m (suc (suc i)) ns i 0 (omega arith) ∙ getD-set-other (set l i x) (suc i) i y 0 ne ∙ getD-set-same l i x 0 (omega arith) in
+    let second : getD (sets m (suc (suc i)) ns) (suc i) 0 ≡ y =
+    getD-sets-before m (suc (suc i)) ns (suc i) 0 (omega arith) ∙ getD-set-same (set l i x) (suc i) y 0 (omega (arith, length-set l i x)) in
+    rw (first, second, set-sets-before m (suc (suc i)) ns i y (omega arith), set-sets-before (set m i y) (suc (suc i)) ns (suc i) x (omega arith))
+    (ap (λ (z : List ℕ). sets z (suc (suc i)) ns) (ap (λ (z : List ℕ). set z (suc i) x) (set-comm (set l i x) (suc i) i y y en ∙ ap (λ (z : List ℕ). set z (suc i) y) (set-set l i x y)) ∙ set-set (set l i y) (suc i) y x))
+
+-- values that stand there already, and others behind them
+pub sets-kept : (l : List ℕ) (i : ℕ) (xs : List ℕ) → i ≤ length l → sets l 0 (take i l ++ xs) ≡ sets l i xs
+sets-kept l i xs h =
+    let long : length (take i l) ≡ i = length-take-le i l h in
+    let same : sets l 0 (take i l) ≡ l = sets-eq (take i l) l 0 (omega arith) ∙ rw (zero-add (length (take i l)), long) (take-append-drop i l) in
+    sets-append l 0 (take i l) xs ∙ rw (same, zero-add (length (take i l)), long)
+
+-- a part that was lent and has come back, said of the whole
+pub part-written : (l : List ℕ) (i n : ℕ) (vs : List ℕ) → length vs ≡ n → i + n ≤ length l → putMid i n l vs ≡ sets l i vs
+part-written l i n vs e h = rw drop-drop (sym (sets-eq vs l i (omega arith) ∙ rw (e, append-assoc)))

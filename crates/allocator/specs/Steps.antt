@@ -1,0 +1,37 @@
+-- The finish's work in parts. Only private functions cite these.
+use Prim.Native.Nat.{ℕ, _*_, _-_, _≤_}
+use mathlib.Core.Bool.{Bool, true, false, cond}
+use mathlib.Core.List.{List, [], _∷_, _++_, reverse}
+use lib.Dec.{eqb}
+use lib.ListN.{length, getD, take, drop}
+use Rattle.page.specs.PageSize.{PageSize, capacity}
+use Rattle.free_list.specs.Shape.{FreeList}
+
+-- the first two change places, where asked
+abbrev pub swapIf : Bool → List ℕ → List ℕ
+swapIf true [] = []
+swapIf true (x ∷ []) = x ∷ []
+swapIf true (x ∷ y ∷ ns) = y ∷ x ∷ ns
+swapIf false ns = ns
+
+-- the push list: the freed numbers, then the old numbers of the pages from the top down to page `low`; a list that was mended has the
+-- page under the head first
+unfoldable pub pushList : List ℕ → Bool → List ℕ → ℕ → List ℕ
+pushList freed mended pages low = freed ++ swapIf mended (reverse (drop low pages))
+
+-- the list of P pages and L entries that two tables hold
+abbrev pub tableList : List ℕ → List ℕ → ℕ → ℕ → FreeList
+tableList pages entries P L = record { pages = take P pages; entries = take L entries }
+
+-- it has the shape, and some entries
+pub record Listed (s : ℕ) (pages entries : List ℕ) (P L : ℕ) : Type 0 where
+  pub size : PageSize s
+  pub some : 1 ≤ L
+  pub most : L ≤ capacity s * P
+  pub least : capacity s * (P - 1) ≤ L
+  pub pages-fit : P ≤ length pages
+  pub entries-fit : L ≤ length entries
+
+-- the number of the page under page j
+abbrev pub previous : List ℕ → ℕ → ℕ
+previous pages j = cond (eqb j 0) 0 (getD pages (j - 1) 0)
