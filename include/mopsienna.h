@@ -10,6 +10,9 @@
  *
  * A page has 4,096 bytes and a number of 32 bits; number 0 is no page.
  *
+ * A slice is a pointer and a length. The pointer is not null, also where the length is 0, and is
+ * aligned for its type; slices that are written overlap no other.
+ *
  * Nothing is allocated, no file is touched, no function keeps a pointer. Calls on different memory
  * may run at the same time.
  */
@@ -25,8 +28,13 @@ extern "C" {
 
 /* Refusals. The numbers are fixed; each function names those that it returns. */
 enum {
-    MOPSIENNA_LIMIT = 7, /* a number or a bump above its limit */
-    MOPSIENNA_SIZE = 10  /* a size of 0, or above 2^29 */
+    MOPSIENNA_LIST_PAGE = 2, /* a list page number at or past the store's page count */
+    MOPSIENNA_COUNT = 3,     /* the count on a list page does not fit its place */
+    MOPSIENNA_ENTRY = 4,     /* a list entry is 0 or at or past the page count */
+    MOPSIENNA_CHAIN = 5,     /* a list that has not ended after as many pages as the store has */
+    MOPSIENNA_TABLES = 6,    /* list tables shorter than the list */
+    MOPSIENNA_LIMIT = 7,     /* a number or a bump above its limit */
+    MOPSIENNA_SIZE = 10      /* a size of 0, or above 2^29 */
 };
 
 /* The largest page number that a store grows for, and the largest bump. */
@@ -44,6 +52,32 @@ enum {
  * Refusals: 7 for a page above MOPSIENNA_MAX_BUMP.
  */
 uint32_t mopsienna_grow(uint32_t page, uint64_t out[8]);
+
+/*
+ * Reads the free list whose head page is `head` into two tables: its page numbers and its entries,
+ * both from the bottom page up. Head 0 is the empty list. The store's page count is its length
+ * divided by 4,096, rounded down, and at most 2^32 - 1.
+ *
+ *   out[0]  P, the pages of the list: pages[0 .. P] hold their numbers
+ *   out[1]  L, the entries of the list: entries[0 .. L] hold them
+ *
+ * The other places of both tables stay as they were, and after a refusal all of them do.
+ *
+ * A list page has the previous page's number in its bytes 0-3, the count of its entries in bytes
+ * 4-5, and then the entries, 4 bytes each, at most 1,022; all little-endian. The head holds 1 to
+ * 1,022 entries and every page below it 1,022; but under a head of one entry there may be 1,021.
+ *
+ * Refusals, page by page from the head:
+ *   2  the page's number is at or past the page count; out[0] is that number
+ *   3  its count does not fit its place; out[0] is the page
+ *   4  one of its entries is 0, or at or past the page count; out[0] is the page
+ *   5  the list has not ended after as many pages as the store has
+ * and behind them all
+ *   6  a table is shorter than the list
+ */
+uint32_t mopsienna_read_list(const uint8_t *store, size_t store_len, uint32_t head, uint32_t *pages,
+                             size_t pages_len, uint32_t *entries, size_t entries_len,
+                             uint64_t out[8]);
 
 /*
  * How many overflow pages a value of `size` bytes takes.

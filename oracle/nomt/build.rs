@@ -15,8 +15,14 @@ const DEFAULT_SOURCE: &str = "../shared/docs/src/nomt/src";
 
 /// The files that are built unchanged, each with the accessors that are appended to it.
 const FILES: [(&str, &str); 3] = [
-    ("beatree/allocator/mod.rs", ""),
-    ("beatree/allocator/free_list.rs", ""),
+    (
+        "beatree/allocator/mod.rs",
+        include_str!("probes/allocator.rs"),
+    ),
+    (
+        "beatree/allocator/free_list.rs",
+        include_str!("probes/free_list.rs"),
+    ),
     (
         "beatree/ops/overflow.rs",
         include_str!("probes/overflow.rs"),

@@ -89,7 +89,7 @@ module _ (l a b freed pages : List ℕ) (at low : ℕ) (first : a ≡ sets l at 
     where
       turned : (ns : List ℕ) → 2 ≤ length ns
           → set (set (sets (sets l at freed) (at + length freed) ns) (at + length freed) (getD (sets (sets l at freed) (at + length freed) ns) (suc (at + length freed)) 0))
-            (suc (at + length freed)) (getD (sets (sets l at freed) (at + length freed) ns) (at + length freed) 0)
+          (suc (at + length freed)) (getD (sets (sets l at freed) (at + length freed) ns) (at + length freed) 0)
           ≡ sets (sets l at freed) (at + length freed) (swapIf true ns)
       turned [] h = absurd (not-suc-le-zero h)
       turned (x ∷ []) h = absurd (omega arith)

@@ -50,7 +50,10 @@ pub fn allocate_from(size: usize, save: Save, pages: &[u32], entries: &[u32]) ->
         return Allocated::Refused(Refusal::Limit);
     }
     let page = number as u32;
-    Allocated::Number(PageNumber(page), advanced(save, recorded_for(save.length, page)))
+    Allocated::Number(
+        PageNumber(page),
+        advanced(save, recorded_for(save.length, page)),
+    )
 }
 
 // The save with one number more handed out, and this recorded length.

@@ -67,7 +67,14 @@ fn encode_page(
     let c = max_pns_per_page(size);
     let from = entries_below(c, count, listed, j);
     let to = entries_below(c, count, listed, j + 1);
-    encode_free_list_page(size, previous_page(pages, j), entries, from, to - from, page);
+    encode_free_list_page(
+        size,
+        previous_page(pages, j),
+        entries,
+        from,
+        to - from,
+        page,
+    );
 }
 
 // Encodes the pages from page `first` up, one behind the other.

@@ -1,5 +1,5 @@
 // The open save: numbers are handed out from the free list and past the bump, and the save is finished with a new free list.
-pub mod save;
 pub mod allocate;
-mod tables;
 mod encode;
+pub mod save;
+mod tables;

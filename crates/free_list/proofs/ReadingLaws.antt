@@ -5,15 +5,16 @@ use native.Mathlib.Numerals.{add-one}
 use native.Mathlib.Omega.{arith}
 use mathlib.Core.Path.{_≡_, refl, ap, ap₂, sym, _∙_, subst}
 use mathlib.Core.Logic.{⊎-elim}
-use mathlib.Core.Bool.{Bool, true, false, _&&_, _||_}
+use mathlib.Core.Bool.{Bool, true, false, _&&_, _||_, cond}
 use mathlib.Core.List.{List, [], _∷_, _++_}
 use lib.Dec.{leb, ltb, eqb}
 use lib.ListN.{length, length-append}
-use borrow.Author.Tests.{le-leb, lt-leb, lt-ltb, le-ltb, leb-true, ltb-true, eqb-true}
+use borrow.Author.Tests.{le-leb, lt-leb, lt-ltb, le-ltb, leb-true, ltb-true, eqb-true, ne-eqb}
 use Rattle.refusal.specs.Outcome.{Outcome, answer, refused, check, withAnswer}
 use Rattle.refusal.proofs.Cases.{check-answer, withAnswer-answer, cond-cases, and-true, or-true}
 use Rattle.page.specs.Bytes.{numberAt, numbersAt}
 use Rattle.page.specs.PageSize.{capacity}
+use Rattle.page.proofs.BytesLaws.{numbersAt-snoc}
 use Rattle.page.specs.Pages.{pageCount, pageAt}
 use Rattle.free_list.specs.ListPages.{prevOf, countOf, entriesOf}
 use Rattle.free_list.specs.Shape.{FreeList}
@@ -36,34 +37,37 @@ countFits-small c above entries n e =
     last : eqb above 1 && (eqb entries 1 && eqb (n + 1) c) ≡ true → eqb (n + 1) c ≡ true
     last k = and-true (eqb entries 1) (eqb (n + 1) c) (and-true (eqb above 1) _ k .1) .1
 
--- the entries from the i-th on fit where the i-th does and those behind it do
-pub entriesFit-from : (count : ℕ) (page : List ℕ) (n i : ℕ) → i < n
-    → entriesFit count (numbersAt 4 page (6 + 4 * i) (n - i))
-    ≡ (leb 1 (numberAt 4 page (6 + 4 * i)) && ltb (numberAt 4 page (6 + 4 * i)) count) && entriesFit count (numbersAt 4 page (6 + 4 * (i + 1)) (n - (i + 1)))
-unfolding entriesFit numbersAt
-entriesFit-from count page n i h =
-    let one : n - i ≡ suc (n - (i + 1)) = omega arith in
-    let next : 6 + 4 * i + 4 ≡ 6 + 4 * (i + 1) = omega arith in
-    rw (one, next)
+-- one entry more
+entriesFit-snoc : (count : ℕ) (ns : List ℕ) (x : ℕ) → entriesFit count (ns ++ (x ∷ [])) ≡ entriesFit count ns && (leb 1 x && ltb x count)
+unfolding entriesFit
+entriesFit-snoc count [] x = last (leb 1 x && ltb x count)
+  where
+    last : (b : Bool) → b && true ≡ b
+    last true = refl
+    last false = refl
+entriesFit-snoc count (n ∷ ns) x = rw (entriesFit-snoc count ns x) (grouped (leb 1 n && ltb n count) (entriesFit count ns) (leb 1 x && ltb x count))
+  where
+    grouped : (a b c : Bool) → a && (b && c) ≡ (a && b) && c
+    grouped true b c = refl
+    grouped false b c = refl
 
--- what entry x at place i says of all n entries, where those before it fit
-module _ (count : ℕ) (page : List ℕ) (n i x : ℕ) (inside : i < n) (at : x ≡ numberAt 4 page (6 + 4 * i))
-    (before : entriesFit count (numbersAt 4 page 6 n) ≡ entriesFit count (numbersAt 4 page (6 + 4 * i) (n - i))) where
-  from : entriesFit count (numbersAt 4 page 6 n) ≡ (leb 1 x && ltb x count) && entriesFit count (numbersAt 4 page (6 + 4 * (i + 1)) (n - (i + 1)))
-  from = rw at (before ∙ entriesFit-from count page n i inside)
-
-  pub entry-zero : x ≡ 0 → false ≡ entriesFit count (numbersAt 4 page 6 n)
-  entry-zero e = sym (from ∙ simp (lt-leb 1 x (omega arith)))
-
-  pub entry-past : count ≤ x → false ≡ entriesFit count (numbersAt 4 page 6 n)
-  entry-past h = sym (from ∙ rw (le-ltb x count h) (none (leb 1 x)))
-    where
-      none : (b : Bool) → (b && false) && entriesFit count (numbersAt 4 page (6 + 4 * (i + 1)) (n - (i + 1))) ≡ false
-      none true = refl
-      none false = refl
-
-  pub entry-good : (x ≡ 0 → ⊥) → x < count → entriesFit count (numbersAt 4 page 6 n) ≡ entriesFit count (numbersAt 4 page (6 + 4 * (i + 1)) (n - (i + 1)))
-  entry-good ne h = from ∙ simp (le-leb 1 x (omega arith), lt-ltb x count h)
+-- entry x at place i, where `bad` of those before it do not fit
+pub entries-more : (count : ℕ) (page : List ℕ) (i bad x u : ℕ) → x ≡ numberAt 4 page (6 + 4 * i) → u ≡ cond (leb 1 x && ltb x count) 0 1
+    → entriesFit count (numbersAt 4 page 6 i) ≡ eqb bad 0 → entriesFit count (numbersAt 4 page 6 (i + 1)) ≡ eqb (bad + u) 0
+entries-more count page i bad x u e f before =
+    rw (add-one i, numbersAt-snoc 4 page 6 i, ← e, entriesFit-snoc count (numbersAt 4 page 6 i) x, before, f) (step (leb 1 x && ltb x count))
+  where
+    step : (b : Bool) → eqb bad 0 && b ≡ eqb (bad + cond b 0 1) 0
+    step true = rw (add-zero bad) (last (eqb bad 0))
+      where
+        last : (b : Bool) → b && true ≡ b
+        last true = refl
+        last false = refl
+    step false = rw (ne-eqb (bad + 1) 0 (omega arith)) (last (eqb bad 0))
+      where
+        last : (b : Bool) → b && false ≡ false
+        last true = refl
+        last false = refl
 
 -- ---- a page of a walk
 

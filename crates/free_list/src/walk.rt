@@ -1,6 +1,7 @@
 // The walk down a list, which only reads: it finds out how many pages and entries the list has, or why it is refused.
 ghost use mathlib.Core.Path.{_≡_};
-ghost use mathlib.Core.Bool.{true};
+ghost use mathlib.Core.Bool.{cond, _&&_};
+ghost use lib.Dec.{leb, ltb};
 ghost use Prim.Native.Nat.{_+_, _*_, _<_, _≤_};
 ghost use lib.ListN.{length};
 ghost use Rattle.page.specs.Bytes.{numbersAt};
@@ -53,23 +54,29 @@ fn count_fits(c: usize, above: usize, entries: usize, n: usize) -> bool
     n == c || (above == 1 && (entries == 1 && n + 1 == c))
 }
 
-// Whether the first n entries of a list page are numbers of pages of a store of `count` pages, and none is 0.
+// 0 where an entry is the number of a page of a store of `count` pages, and 1 where it is not or is 0.
+fn unfit(entry: u32, count: u32) -> u32
+    ensures { λ r. ⌜ (r ≡ cond (leb 1 entry && ltb entry count) 0 1) × (r ≤ 1) ⌝ }
+{
+    if entry == 0 {
+        return 1;
+    }
+    if count <= entry { 1 } else { 0 }
+}
+
+// Whether the first n entries of a list page are numbers of pages of a store of `count` pages, and none is 0. All are counted
+// that are not: without a way out in its middle the loop becomes vector code.
 fn entries_fit(page: &[u8], n: usize, count: u32) -> bool
-    requires { ⌜ 6 + 4 * n ≤ length (now page) ⌝ }
+    requires { ⌜ (n < 65536) × (6 + 4 * n ≤ length (now page)) ⌝ }
     ensures { λ r. ⌜ r ≡ entriesFit count (numbersAt 4 (now (page .entry)) 6 n) ⌝ }
 {
     let mut i = 0;
+    let mut bad = 0;
     while i < n {
-        let entry = item(page, i).0;
-        if entry == 0 {
-            return false;
-        }
-        if count <= entry {
-            return false;
-        }
+        bad += unfit(item(page, i).0, count);
         i += 1;
     }
-    true
+    bad == 0
 }
 
 // Visits the page at which a walk stands.

@@ -4,7 +4,8 @@
 //! page past the end is handed out and where a save finishes with its bump past the end. Both are
 //! taken here, over an empty file, and the file's length is read.
 
-use crate::{memory_file::memory_file, random::Random, report::Report, Plan};
+use crate::{report::Report, Plan};
+use common::{memory_file, Random};
 use mopsienna_sys::Reply;
 use nomt_4096::{
     beatree::allocator::{PageNumber, Store},
@@ -46,7 +47,7 @@ pub fn compare(plan: &Plan, library: impl Fn(u32) -> Reply) -> io::Result<Report
     for case in 0..plan.count {
         check(match case % 4 {
             0 => random.of_any_length(32) as u32,
-            _ => random.next() as u32,
+            _ => random.bits() as u32,
         })?;
     }
     Ok(report)

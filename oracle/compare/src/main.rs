@@ -4,8 +4,7 @@
 //! made.
 
 mod grow;
-mod memory_file;
-mod random;
+mod lists;
 mod report;
 mod self_test;
 mod totals;
@@ -16,7 +15,7 @@ const USAGE: &str = "\
 usage: compare [--short] [--seed N] [--count N] [--self-test]
   --short      about a second instead of about a minute
   --seed N     the seed of the random cases
-  --count N    random cases for each operation
+  --count N    random cases for each operation, a twentieth of that for lists
   --self-test  see whether wrong replies are caught, over the short form";
 
 /// What is to be compared.
@@ -53,11 +52,17 @@ fn main() -> ExitCode {
 
 /// Compares every operation. Tells whether all agree.
 fn compare(plan: &Plan) -> io::Result<bool> {
-    println!("seed {}, {} random cases each", plan.seed, plan.count);
-    let operations: [&dyn Fn() -> io::Result<report::Report>; 2] =
-        [&|| grow::compare(plan, mopsienna_sys::grow), &|| {
-            Ok(totals::compare(plan, mopsienna_sys::total))
-        }];
+    println!(
+        "seed {}, {} random cases each, {} of lists",
+        plan.seed,
+        plan.count,
+        plan.count / lists::RANDOM_SHARE
+    );
+    let operations: [&dyn Fn() -> io::Result<report::Report>; 3] = [
+        &|| grow::compare(plan, mopsienna_sys::grow),
+        &|| Ok(totals::compare(plan, mopsienna_sys::total)),
+        &|| lists::compare(plan, mopsienna_sys::read_list),
+    ];
     let mut agreed = true;
     for operation in operations {
         let report = operation()?;

@@ -12,6 +12,7 @@ pub struct Report {
     disagreements: u64,
     /// Those with the smallest inputs, each with the text that tells of it.
     smallest: BTreeSet<(u64, String)>,
+    notes: Vec<String>,
 }
 
 impl Report {
@@ -21,18 +22,28 @@ impl Report {
             calls: 0,
             disagreements: 0,
             smallest: BTreeSet::new(),
+            notes: vec![],
         }
     }
 
     /// Counts a call and compares what it gave, every place of it.
     pub fn check(&mut self, input: u64, expected: &Reply, got: &Reply) {
+        self.count(input, got == expected, || {
+            format!("{input}: expected {expected}, got {got}")
+        });
+    }
+
+    /// Counts a call that was compared elsewhere. Where inputs are no numbers, `input` is the
+    /// call's place among all.
+    pub fn count(&mut self, input: u64, agrees: bool, text: impl FnOnce() -> String) {
         self.calls += 1;
-        if got != expected {
-            self.disagree(input, || format!("{input}: expected {expected}, got {got}"));
+        if !agrees {
+            self.disagree(input, text);
         }
     }
 
-    fn disagree(&mut self, input: u64, text: impl FnOnce() -> String) {
+    /// Keeps a disagreement.
+    pub fn disagree(&mut self, input: u64, text: impl FnOnce() -> String) {
         self.disagreements += 1;
         let full = self.smallest.len() == KEPT;
         if full && self.smallest.last().is_some_and(|last| last.0 <= input) {
@@ -42,6 +53,11 @@ impl Report {
         if self.smallest.len() > KEPT {
             self.smallest.pop_last();
         }
+    }
+
+    /// Adds a line to what is shown.
+    pub fn note(&mut self, text: String) {
+        self.notes.push(text);
     }
 
     pub fn agrees(&self) -> bool {
@@ -61,7 +77,8 @@ impl fmt::Display for Report {
             "{}: {} calls, {} disagreements",
             self.operation, self.calls, self.disagreements
         )?;
-        for (_, text) in &self.smallest {
+        let disagreements = self.smallest.iter().map(|(_, text)| text);
+        for text in self.notes.iter().chain(disagreements) {
             write!(f, "\n  {text}")?;
         }
         Ok(())

@@ -1,9 +1,13 @@
-//! Shows that the comparisons can fail: each is run with one reply of the library changed, and
-//! has to report a disagreement there.
+//! Shows that the comparisons can fail: each is run with one reply of the library changed, or one
+//! place of its tables, and has to report a disagreement there.
 
-use crate::{grow, report::Report, totals, Plan};
+use crate::{grow, lists, report::Report, totals, Plan};
 use mopsienna_sys::{self as library, Reply};
-use std::io;
+use std::{
+    cell::{Cell, RefCell},
+    collections::BTreeMap,
+    io,
+};
 
 /// The parts of a reply: its places, and its number after them.
 const PARTS: usize = library::UNTOUCHED.len() + 1;
@@ -35,9 +39,52 @@ pub fn run(plan: &Plan) -> io::Result<bool> {
             record("total", input, part, &report);
         }
     }
+    for call in list_calls(plan)?.into_values() {
+        for part in 0..PARTS + TABLE_PARTS {
+            let report = compare_lists_changed(plan, call, part)?;
+            record("read_list", call, part, &report);
+        }
+    }
 
     println!("self-test: {changes} changes, {missed} not caught");
     Ok(missed == 0)
+}
+
+/// The parts of the two tables that are changed: the first and the last place of each.
+const TABLE_PARTS: usize = 4;
+
+/// For each number that a call gives, the first such call whose tables both have places.
+fn list_calls(plan: &Plan) -> io::Result<BTreeMap<u32, u64>> {
+    let calls = Cell::new(0);
+    let first = RefCell::new(BTreeMap::new());
+    lists::compare(plan, |store, head, pages, entries| {
+        let reply = library::read_list(store, head, pages, entries);
+        let call = calls.replace(calls.get() + 1);
+        if !pages.is_empty() && !entries.is_empty() {
+            first.borrow_mut().entry(reply.number).or_insert(call);
+        }
+        reply
+    })?;
+    Ok(first.into_inner())
+}
+
+fn compare_lists_changed(plan: &Plan, call: u64, part: usize) -> io::Result<Report> {
+    let calls = Cell::new(0);
+    lists::compare(plan, |store, head, pages, entries| {
+        let reply = library::read_list(store, head, pages, entries);
+        let change = calls.replace(calls.get() + 1) == call;
+        let place = match part.checked_sub(PARTS) {
+            Some(0) => pages.first_mut(),
+            Some(1) => pages.last_mut(),
+            Some(2) => entries.first_mut(),
+            Some(_) => entries.last_mut(),
+            None => return changed_if(change, part, reply),
+        };
+        if let Some(place) = place.filter(|_| change) {
+            *place ^= 1;
+        }
+        reply
+    })
 }
 
 /// The reply, with one bit of the part changed if it is to be.

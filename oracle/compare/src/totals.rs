@@ -1,7 +1,8 @@
 //! `total`: how many pages a value of some size takes, how many of their numbers are in its
 //! cell, and how many bytes of the pages are neither header nor value.
 
-use crate::{random::Random, report::Report, Plan};
+use crate::{report::Report, Plan};
+use common::Random;
 use mopsienna_sys::Reply;
 use nomt_4096::beatree::{
     leaf::node::{MAX_OVERFLOW_CELL_NODE_POINTERS, MAX_OVERFLOW_VALUE_SIZE},

@@ -66,6 +66,16 @@ impl fmt::Display for Reply {
 extern "C" {
     fn mopsienna_grow(page: u32, out: &mut Out) -> u32;
     fn mopsienna_total(size: u64, out: &mut Out) -> u32;
+    fn mopsienna_read_list(
+        store: *const u8,
+        store_len: usize,
+        head: u32,
+        pages: *mut u32,
+        pages_len: usize,
+        entries: *mut u32,
+        entries_len: usize,
+        out: &mut Out,
+    ) -> u32;
 }
 
 /// Answers the grown length.
@@ -78,4 +88,22 @@ pub fn grow(page: u32) -> Reply {
 pub fn total(size: u64) -> Reply {
     // SAFETY: the function writes only to the eight places of `out`.
     Reply::of(|out| unsafe { mopsienna_total(size, out) })
+}
+
+/// Reads a list into the two tables. Answers how many pages and entries it has.
+pub fn read_list(store: &[u8], head: u32, pages: &mut [u32], entries: &mut [u32]) -> Reply {
+    // SAFETY: the function reads only the store, and writes only to the tables and to the eight
+    // places of `out`.
+    Reply::of(|out| unsafe {
+        mopsienna_read_list(
+            store.as_ptr(),
+            store.len(),
+            head,
+            pages.as_mut_ptr(),
+            pages.len(),
+            entries.as_mut_ptr(),
+            entries.len(),
+            out,
+        )
+    })
 }

@@ -5,7 +5,6 @@ use borrow.Author.Needs.{needs}
 use Rattle.allocator.proofs.allocate.allocate.Statement.{statement}
 use Rattle.allocator.proofs.allocate.allocate.Tie as tie
 
-
 allocate-from-requires : tie.Need-allocate-from-requires
 allocate-from-requires c κs = page-size
 

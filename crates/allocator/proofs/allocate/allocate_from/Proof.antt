@@ -10,7 +10,6 @@ use borrow.Author.Needs.{needs}
 use Rattle.allocator.proofs.allocate.allocate_from.Statement.{statement}
 use Rattle.allocator.proofs.allocate.allocate_from.Tie as tie
 
-
 state-fits-requires : tie.Need-state-fits-requires
 state-fits-requires c κs = search needs
 

@@ -22,7 +22,6 @@ same e = cc
 never : {x n : ℕ} {vs : List ℕ} → refused n vs ≡ answer x → ⊥
 never e = let z : _≡_ {A = ℕ} 0 1 = cc in omega arith
 
-
 returns : tie.Need-returns
 returns c = rw (lt-ltb _ _ (c .if1 .taken))
 

@@ -6,7 +6,6 @@ use borrow.Author.Needs.{needs}
 use Rattle.allocator.proofs.encode.encode_page.Statement.{statement}
 use Rattle.allocator.proofs.encode.encode_page.Tie as tie
 
-
 max-pns-per-page-requires : tie.Need-max-pns-per-page-requires
 max-pns-per-page-requires c κs = c .before .before .before .pre .0 .size
 

@@ -49,7 +49,6 @@ module _ {s : ℕ} {pages entries : List ℕ} {P L : ℕ} (l : Listed s pages en
       rw size (part-written b at s x long fits ∙ rw (this, ← f, here)) in
       put ∙ rw more (pages-more l first n (omega arith) m b _ e refl)
 
-
 abbrev Inv-loop : tie.InvT-loop
 Inv-loop size pages entries count listed first buffer₀ j₀ at₀ buffer j at = (first ≤ j) × (j ≤ count) × (at ≡ size * (j - first)) × (length buffer ≡ length buffer₀) × (buffer ≡ sets buffer₀ 0 (bytesOfPages (encodedPages size (tableList pages entries count listed) first (j - first))))
 

@@ -9,7 +9,6 @@ use borrow.Author.Needs.{needs}
 use Rattle.allocator.proofs.encode.entries_below.Statement.{statement}
 use Rattle.allocator.proofs.encode.entries_below.Tie as tie
 
-
 returns : tie.Need-returns
 returns c = below-all _ _ _ _ (c .if1 .taken)
 

@@ -6,7 +6,6 @@ use borrow.Author.Needs.{needs}
 use Rattle.allocator.proofs.encode.is_fragmented.Statement.{statement}
 use Rattle.allocator.proofs.encode.is_fragmented.Tie as tie
 
-
 returns : tie.Need-returns
 unfolding isFragmented
 returns c = rw (lt-leb _ _ (c .if1 .taken))

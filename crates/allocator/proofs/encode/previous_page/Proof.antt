@@ -5,7 +5,6 @@ use borrow.Author.Needs.{needs}
 use Rattle.allocator.proofs.encode.previous_page.Statement.{statement}
 use Rattle.allocator.proofs.encode.previous_page.Tie as tie
 
-
 returns : tie.Need-returns
 returns c = rw (eq-eqb _ _ (c .if1 .taken))
 

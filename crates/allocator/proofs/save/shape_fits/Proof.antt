@@ -5,7 +5,6 @@ use borrow.Author.Needs.{needs}
 use Rattle.allocator.proofs.save.shape_fits.Statement.{statement}
 use Rattle.allocator.proofs.save.shape_fits.Tie as tie
 
-
 returns : tie.Need-returns
 returns c = shape-none _ _ _ (c .if1 .taken)
 

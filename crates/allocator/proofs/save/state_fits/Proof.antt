@@ -16,7 +16,6 @@ use Rattle.allocator.proofs.save.state_fits.Tie as tie
 shape-is : (s P L : ℕ) {most : ℕ} {r q : Bool} → most ≡ capacity s → r ≡ isShape most P L → r ≡ q → isShape (capacity s) P L ≡ q
 shape-is s P L m e f = sym (e ∙ ap (λ (k : ℕ). isShape k P L) m) ∙ f
 
-
 returns : tie.Need-returns
 unfolding stateFits
 returns c = rw (lt-leb 1 (c .before .before .before .before .args .save .bump) (omega (arith, c .if1 .taken)))

@@ -9,7 +9,6 @@ use Rattle.allocator.proofs.TablesLaws.{copy-more}
 use Rattle.allocator.proofs.tables.copy_numbers.Statement.{statement}
 use Rattle.allocator.proofs.tables.copy_numbers.Tie as tie
 
-
 abbrev Inv-loop : tie.InvT-loop
 Inv-loop numbers n table₀ at i₀ table i = (i ≤ n) × (length table ≡ length table₀) × (table ≡ sets table₀ at (take i numbers))
 

@@ -10,7 +10,6 @@ use Rattle.allocator.proofs.TablesLaws.{bad-none, bad-zero, bad-past, b
 use Rattle.allocator.proofs.tables.first_bad.Statement.{statement}
 use Rattle.allocator.proofs.tables.first_bad.Tie as tie
 
-
 abbrev Inv-loop : tie.InvT-loop
 Inv-loop freed limit i₀ i = (i ≤ length freed) × (Finish·firstBad limit freed ≡ i + Finish·firstBad limit (drop i freed))
 

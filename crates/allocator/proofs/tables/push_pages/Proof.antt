@@ -10,7 +10,6 @@ use Rattle.allocator.proofs.TablesLaws.{push-none, push-more}
 use Rattle.allocator.proofs.tables.push_pages.Statement.{statement}
 use Rattle.allocator.proofs.tables.push_pages.Tie as tie
 
-
 abbrev Inv-loop : tie.InvT-loop
 Inv-loop pages count low table₀ at page₀ i₀ table page i = (low ≤ page) × (page ≤ count) × (i + page ≡ at + count) × (length table ≡ length table₀) × (table ≡ sets table₀ at (reverse (drop page (take count pages))))
 

@@ -10,7 +10,6 @@ use borrow.Author.Needs.{needs}
 use Rattle.allocator.proofs.tables.write_pushes.Statement.{statement}
 use Rattle.allocator.proofs.tables.write_pushes.Tie as tie
 
-
 copy-numbers-requires : tie.Need-copy-numbers-requires
 copy-numbers-requires c κs = search needs
 

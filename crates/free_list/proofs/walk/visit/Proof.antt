@@ -93,7 +93,7 @@ returns-2 c =
 entries-fit-requires : tie.Need-entries-fit-requires
 entries-fit-requires c κs =
     let f = found (c .before .before .before .before .before .before .before .pre .0) (c .before .before .before .before .before .before .before .pre .1) (c .before .before .before .before .before .if1 .left) (c .before .before .before .before .page-at .ensures) in
-    room (c .before .before .before .before .before .before .before .args .w) (c .before .before .before .before .before .before .before .pre .3) (c .before .before .before .before .before .before .before .pre .2) f (c .before .before .before .item-count .ensures) (c .before .before .max-pns-per-page .ensures) (c .before .count-fits .ensures) (not-false _ (c .if2 .left))
+    (omega arith, room (c .before .before .before .before .before .before .before .args .w) (c .before .before .before .before .before .before .before .pre .3) (c .before .before .before .before .before .before .before .pre .2) f (c .before .before .before .item-count .ensures) (c .before .before .max-pns-per-page .ensures) (c .before .count-fits .ensures) (not-false _ (c .if2 .left)))
 
 returns-3 : tie.Need-returns-3
 returns-3 c =

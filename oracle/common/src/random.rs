@@ -7,7 +7,8 @@ impl Random {
         Random(seed)
     }
 
-    pub fn next(&mut self) -> u64 {
+    /// The next number, of 64 bits.
+    pub fn bits(&mut self) -> u64 {
         self.0 = self.0.wrapping_add(0x9E37_79B9_7F4A_7C15);
         let mut mixed = self.0;
         mixed = (mixed ^ (mixed >> 30)).wrapping_mul(0xBF58_476D_1CE4_E5B9);
@@ -17,12 +18,12 @@ impl Random {
 
     /// A number below `limit`, which is not 0.
     pub fn below(&mut self, limit: u64) -> u64 {
-        self.next() % limit
+        self.bits() % limit
     }
 
     /// A number of at most `bits` bits, 1 to 64: small ones come as often as large ones.
     pub fn of_any_length(&mut self, bits: u32) -> u64 {
         let length = 1 + self.below(bits.into());
-        self.next() >> (64 - length)
+        self.bits() >> (64 - length)
     }
 }

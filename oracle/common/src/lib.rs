@@ -1,0 +1,10 @@
+//! What the programs of this workspace share.
+
+pub mod lists;
+mod memory_file;
+mod random;
+mod store;
+
+pub use memory_file::memory_file;
+pub use random::Random;
+pub use store::Store;
