@@ -2,3 +2,6 @@
 pub mod SaveLaws
 pub mod TablesLaws
 pub mod EncodeLaws
+pub mod NewListLaws
+pub mod PushLaws
+pub mod FinishLaws

@@ -2,10 +2,11 @@
 use Prim.Native.Nat.{ℕ, _*_, _-_, _≤_}
 use mathlib.Core.Bool.{Bool, true, false, cond}
 use mathlib.Core.List.{List, [], _∷_, _++_, reverse}
-use lib.Dec.{eqb}
+use lib.Dec.{leb, eqb}
 use lib.ListN.{length, getD, take, drop}
 use Rattle.page.specs.PageSize.{PageSize, capacity}
 use Rattle.free_list.specs.Shape.{FreeList}
+use Rattle.preallocate.specs.Plan.{Plan}
 
 -- the first two change places, where asked
 abbrev pub swapIf : Bool → List ℕ → List ℕ
@@ -35,3 +36,7 @@ pub record Listed (s : ℕ) (pages entries : List ℕ) (P L : ℕ) : Type 0 wher
 -- the number of the page under page j
 abbrev pub previous : List ℕ → ℕ → ℕ
 previous pages j = cond (eqb j 0) 0 (getD pages (j - 1) 0)
+
+-- the numbers of the pages that are written: the top page's, if one is kept, and the new pages'
+unfoldable pub newNumbers : Plan → List ℕ
+newNumbers t = cond (leb 1 (t .kept)) (t .top ∷ t .fresh) (t .fresh)

@@ -1,0 +1,423 @@
+-- The plan of a finish, case by case; and its push list: the freed numbers, then the old numbers of the pages from the top down.
+use Prim.Native.Nat.{ℕ, zero, suc, _+_, _*_, _-_, _/_, _<_, _≤_}
+use native.Mathlib.Nat.{mul-zero, mul-suc, mul-le-mul-left, lt-div-mul-add, div-lt-iff-lt-mul, not-suc-le-zero}
+use native.Mathlib.Omega.{arith}
+use mathlib.Core.Path.{_≡_, refl, ap, ap₂, sym, _∙_, subst}
+use mathlib.Core.Logic.{_⊎_, inl, inr}
+use mathlib.Core.Bool.{Bool, true, false, _&&_, _||_, cond}
+use mathlib.Core.List.{List, [], _∷_, _++_, reverse, reverse-cons, append-nil, append-assoc}
+use lib.Dec.{leb, ltb, eqb}
+use lib.ListN.{length, getD, drop, length-append, length-drop, length-reverse, drop-of-length-le}
+use lib.Seq.{drop-cons}
+use borrow.Author.Tests.{leb-true, leb-false, eqb-true, eqb-false}
+use Rattle.refusal.proofs.Cases.{cond-cases, and-true, and-false, or-true}
+use Rattle.free_list.specs.Shape.{FreeList, isShape, isFragmented}
+use Rattle.free_list.proofs.BelowLaws.{fragmented-is}
+use Rattle.preallocate.specs.Plan.{Plan, pagesFor, room, pagesAfter, pushedAfter, noneLeft, renumbered, mended, emptied, firstPlan, swapTop, takeEntry, takeLast, takeBump, nextPlan, enoughRoom, planOf}
+use Rattle.allocator.specs.Steps.{swapIf, pushList}
+
+-- ---- products, pages and the shape
+
+pub one-of-product : (c n : ℕ) → 1 ≤ c * n → 1 ≤ n
+one-of-product c zero h = absurd (omega (arith, mul-zero c))
+one-of-product c (suc n) h = omega arith
+
+-- n entries fit on their pages, and on no fewer
+pub pagesFor-enough : (c n : ℕ) → 1 ≤ c → n ≤ c * pagesFor c n
+unfolding pagesFor
+pagesFor-enough c n h = omega (arith, lt-div-mul-add {a = n + (c - 1)} {b = c} h)
+
+pub pagesFor-least : (c n m : ℕ) → 1 ≤ c → n ≤ c * m → pagesFor c n ≤ m
+unfolding pagesFor
+pagesFor-least c n m h le =
+    let lt : (n + (c - 1)) / c < suc m = div-lt-iff-lt-mul {k = c} {x = n + (c - 1)} {y = suc m} h .1 (omega arith) in
+    omega arith
+
+-- a list of the shape: its entries fit on its pages, and with no entries it has no pages
+pub shape-is : (c P L : ℕ) → isShape c P L ≡ true → (L ≤ c * P) × (L ≡ 0 → P ≡ 0)
+unfolding isShape
+shape-is c P L e = go (or-true (eqb P 0 && eqb L 0) (leb 1 L && (leb (c * (P - 1)) L && leb L (c * P))) e)
+  where
+    go : (eqb P 0 && eqb L 0 ≡ true) ⊎ (leb 1 L && (leb (c * (P - 1)) L && leb L (c * P)) ≡ true) → (L ≤ c * P) × (L ≡ 0 → P ≡ 0)
+    go (inl x) =
+        let t = and-true (eqb P 0) (eqb L 0) x in
+        (omega (arith, eqb-true L 0 (t .1)), λ _. eqb-true P 0 (t .0))
+    go (inr y) =
+        let t = and-true (leb 1 L) _ y in
+        let u = and-true (leb (c * (P - 1)) L) (leb L (c * P)) (t .1) in
+        (leb-true L (c * P) (u .1), λ z. absurd (omega (arith, leb-true 1 L (t .0))))
+
+-- ---- a plan, case by case
+
+enough-short : (c : ℕ) (l : FreeList) (n : ℕ) (t : Plan) → ltb (room c t) (length (t .pushed)) ≡ true → enoughRoom c l (suc n) t ≡ enoughRoom c l n (nextPlan c l t)
+unfolding enoughRoom
+enough-short c l n t e = rw (e, enoughRoom)
+
+enough-long : (c : ℕ) (l : FreeList) (n : ℕ) (t : Plan) → ltb (room c t) (length (t .pushed)) ≡ false → enoughRoom c l (suc n) t ≡ t
+unfolding enoughRoom
+enough-long c l n t e = rw (e, enoughRoom)
+
+-- one turn, where room is short
+pub enough-turn : (c : ℕ) (l : FreeList) (n : ℕ) (t : Plan)
+    → enoughRoom c l (suc n) t ≡ cond (ltb (room c t) (length (t .pushed))) (enoughRoom c l n (nextPlan c l t)) t
+enough-turn c l n t = at (ltb (room c t) (length (t .pushed))) refl
+  where
+    at : (b : Bool) → ltb (room c t) (length (t .pushed)) ≡ b → enoughRoom c l (suc n) t ≡ cond b (enoughRoom c l n (nextPlan c l t)) t
+    at true e = enough-short c l n t e
+    at false e = enough-long c l n t e
+
+-- a finish that pops k numbers mends a fragmented list only where it pops none
+abbrev pub mends : ℕ → FreeList → ℕ → Bool
+mends c l k = eqb k 0 && isFragmented c (length (l .pages)) (length (l .entries))
+
+-- what is left fits on the pages kept, and is of what the pops leave
+pub record Bounded (c : ℕ) (l : FreeList) (k : ℕ) (t : Plan) : Type 0 where
+  pub fits : t .left ≤ c * t .kept
+  pub within : t .left ≤ length (l .entries) - k
+
+module _ (c : ℕ) (l : FreeList) (k : ℕ) (freed : List ℕ) (bump : ℕ) where
+  -- the four first plans, p being the pages that the pops leave
+  pub record FirstCases (Q : Plan → Type 0) : Type 0 where
+    pub none : length (l .entries) ≤ k → mends c l k ≡ false → pagesAfter c l k ≡ 0 → Q (noneLeft c l (pushedAfter c l k freed) bump)
+    pub mending : k ≡ 0 → 1 ≤ length (l .entries) → mends c l k ≡ true → 2 ≤ length (l .pages) → length (l .entries) ≡ c * (length (l .pages) - 1)
+        → pagesAfter c l k ≡ length (l .pages) → Q (mended c l (length (l .entries) - suc k) (pushedAfter c l k freed) bump)
+    pub emptying : k < length (l .entries) → mends c l k ≡ false → 1 ≤ pagesAfter c l k → pagesAfter c l k ≤ length (l .pages)
+        → length (l .entries) - suc k ≡ c * (pagesAfter c l k - 1)
+        → Q (emptied c l (pagesAfter c l k) (length (l .entries) - suc k) (pushedAfter c l k freed) bump)
+    pub renumbering : k < length (l .entries) → mends c l k ≡ false → 1 ≤ pagesAfter c l k → pagesAfter c l k ≤ length (l .pages)
+        → length (l .entries) - k ≤ c * pagesAfter c l k
+        → Q (renumbered c l (pagesAfter c l k) (length (l .entries) - suc k) (pushedAfter c l k freed) bump)
+
+  -- the four turns
+  pub record TurnCases (Q : Plan → Type 0) : Type 0 where
+    pub swapping : (t : Plan) → Bounded c l k t → Q t → 1 ≤ t .kept → t .left ≡ c * t .kept → Q (swapTop c l t)
+    pub taking : (t : Plan) → Bounded c l k t → Q t → 1 ≤ t .left → 1 ≤ t .kept → (t .left ≡ c * t .kept → ⊥) → Q (takeEntry c l t)
+    pub taking-last : (t : Plan) → Bounded c l k t → Q t → 1 ≤ t .left → 1 ≤ t .kept → (t .left ≡ c * t .kept → ⊥)
+        → t .left - 1 ≡ c * (t .kept - 1) → Q (takeLast c l t)
+    pub bumping : (t : Plan) → Bounded c l k t → Q t → Q (takeBump c l t)
+
+  -- what holds of the first plan and is kept by each turn, holds of the plan
+  module _ (Q : Plan → Type 0) (pos : 1 ≤ c) (shape : isShape c (length (l .pages)) (length (l .entries)) ≡ true) where
+    abbrev P : ℕ
+    P = length (l .pages)
+
+    abbrev L : ℕ
+    L = length (l .entries)
+
+    after-fits : L - k ≤ c * pagesAfter c l k
+    unfolding pagesAfter
+    after-fits =
+        cond-cases (λ (p : ℕ). L - k ≤ c * p) (eqb k 0) P (pagesFor c (L - k))
+        (λ e. omega (arith, shape-is c P L shape .0))
+        (λ e. pagesFor-enough c (L - k) pos)
+
+    after-most : pagesAfter c l k ≤ P
+    unfolding pagesAfter
+    after-most =
+        cond-cases (λ (p : ℕ). p ≤ P) (eqb k 0) P (pagesFor c (L - k))
+        (λ e. omega arith)
+        (λ e. pagesFor-least c (L - k) P pos (omega (arith, shape-is c P L shape .0)))
+
+    after-all : k ≡ 0 → pagesAfter c l k ≡ P
+    unfolding pagesAfter
+    after-all e = rw e
+
+    after-none : L ≤ k → pagesAfter c l k ≡ 0
+    unfolding pagesAfter
+    after-none h =
+        cond-cases (λ (p : ℕ). p ≡ 0) (eqb k 0) P (pagesFor c (L - k))
+        (λ e. shape-is c P L shape .1 (omega (arith, eqb-true k 0 e)))
+        (λ e. omega (arith, pagesFor-least c (L - k) 0 pos (omega arith)))
+
+    mends-is : mends c l k ≡ true → (k ≡ 0) × (2 ≤ P) × (L ≡ c * (P - 1))
+    mends-is e =
+        let t = and-true (eqb k 0) (isFragmented c P L) e in
+        (eqb-true k 0 (t .0), fragmented-is c P L (t .1) .0, fragmented-is c P L (t .1) .1)
+
+    not-mended : L ≤ k → (b : Bool) → mends c l k ≡ b → mends c l k ≡ false
+    not-mended h true e =
+        let t = mends-is e in
+        absurd (omega (arith, t .1, t .0, shape-is c P L shape .1 (omega (arith, t .0))))
+    not-mended h false e = e
+
+    abbrev Both : Plan → Type 0
+    Both t = Bounded c l k t × Q t
+
+    module _ (first : FirstCases Q) (turns : TurnCases Q) where
+      both-first : Both (firstPlan c l k freed bump)
+      unfolding firstPlan
+      both-first =
+          cond-cases Both (leb L k) _ _
+          (λ e. let h = leb-true L k e in
+          (record { fits = omega arith; within = omega arith }, first .none h (not-mended h (mends c l k) refl) (after-none h)))
+          (λ e. let lt : k < L = leb-false L k e in
+          let some : 1 ≤ pagesAfter c l k = one-of-product c (pagesAfter c l k) (omega (arith, after-fits)) in
+          cond-cases Both (mends c l k) _ _
+          (λ f. let t = mends-is f in
+          (record { fits = omega (arith, t .2); within = omega arith }, first .mending (t .0) (omega arith) f (t .1) (t .2) (after-all (t .0))))
+          (λ f. cond-cases Both (eqb (L - suc k) (c * (pagesAfter c l k - 1))) _ _
+          (λ g. let x = eqb-true _ _ g in (record { fits = omega arith; within = omega arith }, first .emptying lt f some after-most x))
+          (λ g. (record { fits = omega (arith, after-fits); within = omega arith }, first .renumbering lt f some after-most after-fits))))
+
+      module _ (t : Plan) (both : Both t) where
+        some-kept : 1 ≤ t .left → 1 ≤ t .kept
+        some-kept some = one-of-product c (t .kept) (omega (arith, both .0 .fits))
+
+        not-whole : 1 ≤ t .left → leb 1 (t .kept) && eqb (t .left) (c * t .kept) ≡ false → t .left ≡ c * t .kept → ⊥
+        not-whole some e x = go (and-false (leb 1 (t .kept)) (eqb (t .left) (c * t .kept)) e)
+          where
+            go : (leb 1 (t .kept) ≡ false) ⊎ (eqb (t .left) (c * t .kept) ≡ false) → ⊥
+            go (inl y) = omega (arith, leb-false 1 (t .kept) y, some-kept some)
+            go (inr y) = eqb-false (t .left) (c * t .kept) y x
+
+        both-next : Both (nextPlan c l t)
+        unfolding nextPlan
+        both-next =
+            cond-cases Both (leb 1 (t .kept) && eqb (t .left) (c * t .kept)) _ _
+            (λ e. let b = and-true (leb 1 (t .kept)) (eqb (t .left) (c * t .kept)) e in
+            let x = eqb-true _ _ (b .1) in
+            (record { fits = omega (arith, x); within = omega (arith, both .0 .within) }, turns .swapping t (both .0) (both .1) (leb-true _ _ (b .0)) x))
+            (λ e. cond-cases Both (leb 1 (t .left)) _ _
+            (λ f. let some : 1 ≤ t .left = leb-true _ _ f in
+            cond-cases Both (eqb (t .left - 1) (c * (t .kept - 1))) _ _
+            (λ g. let x = eqb-true _ _ g in
+            (record { fits = omega arith; within = omega (arith, both .0 .within) }, turns .taking-last t (both .0) (both .1) some (some-kept some) (not-whole some e) x))
+            (λ g. (record { fits = omega (arith, both .0 .fits); within = omega (arith, both .0 .within) }, turns .taking t (both .0) (both .1) some (some-kept some) (not-whole some e))))
+            (λ f. (record { fits = both .0 .fits; within = both .0 .within }, turns .bumping t (both .0) (both .1))))
+
+      both-enough : (n : ℕ) (t : Plan) → Both t → Both (enoughRoom c l n t)
+      unfolding enoughRoom
+      both-enough zero t both = both
+      both-enough (suc n) t both =
+          subst Both (sym (enough-turn c l n t))
+          (cond-cases Both (ltb (room c t) (length (t .pushed))) (enoughRoom c l n (nextPlan c l t)) t
+          (λ e. both-enough n (nextPlan c l t) (both-next t both))
+          (λ e. both))
+
+      pub plan-run : Bounded c l k (planOf c l k freed bump) × Q (planOf c l k freed bump)
+      unfolding planOf
+      plan-run = both-enough _ (firstPlan c l k freed bump) both-first
+
+-- ---- the push list
+
+pub length-swapIf : (b : Bool) (ns : List ℕ) → length (swapIf b ns) ≡ length ns
+length-swapIf true [] = refl
+length-swapIf true (x ∷ []) = refl
+length-swapIf true (x ∷ y ∷ ns) = refl
+length-swapIf false ns = refl
+
+pub length-pushList : (freed : List ℕ) (b : Bool) (pages : List ℕ) (low : ℕ) → length (pushList freed b pages low) ≡ length freed + (length pages - low)
+unfolding pushList
+length-pushList freed b pages low =
+    length-append freed (swapIf b (reverse (drop low pages))) ∙ rw (length-swapIf, length-reverse, length-drop low pages)
+
+swap-snoc : (b : Bool) (ns : List ℕ) (x : ℕ) → (b ≡ true → 2 ≤ length ns) → swapIf b ns ++ (x ∷ []) ≡ swapIf b (ns ++ (x ∷ []))
+swap-snoc true [] x h = absurd (not-suc-le-zero (h refl))
+swap-snoc true (y ∷ []) x h = absurd (omega (arith, h refl))
+swap-snoc true (y ∷ z ∷ ns) x h = refl
+swap-snoc false ns x h = refl
+
+-- one page more
+push-next : (freed : List ℕ) (b : Bool) (pages : List ℕ) (j : ℕ) → j < length pages → (b ≡ true → suc j + 2 ≤ length pages)
+    → pushList freed b pages (suc j) ++ (getD pages j 0 ∷ []) ≡ pushList freed b pages j
+unfolding pushList
+push-next freed b pages j inside two =
+    append-assoc freed (swapIf b (reverse (drop (suc j) pages))) (getD pages j 0 ∷ [])
+    ∙ ap (λ (ns : List ℕ). freed ++ ns) (swap-snoc b (reverse (drop (suc j) pages)) (getD pages j 0) (λ e. rw (length-reverse, length-drop (suc j) pages) (omega (arith, two e)))
+    ∙ ap (swapIf b) (sym (reverse-cons (getD pages j 0) (drop (suc j) pages)) ∙ ap reverse (sym (drop-cons pages j 0 inside))))
+
+-- the last two
+two-left : (pages : List ℕ) (a b : ℕ) → suc a ≡ b → suc b ≡ length pages → drop a pages ≡ getD pages a 0 ∷ getD pages b 0 ∷ []
+two-left pages a b e f =
+    drop-cons pages a 0 (omega arith)
+    ∙ ap (λ (ns : List ℕ). getD pages a 0 ∷ ns)
+      (ap (λ (n : ℕ). drop n pages) e ∙ drop-cons pages b 0 (omega arith) ∙ ap (λ (ns : List ℕ). getD pages b 0 ∷ ns) (drop-of-length-le pages {i = suc b} (omega arith)))
+
+push-two : (freed pages : List ℕ) (a b : ℕ) → suc a ≡ b → suc b ≡ length pages → freed ++ (getD pages a 0 ∷ getD pages b 0 ∷ []) ≡ pushList freed true pages a
+unfolding pushList
+push-two freed pages a b e f = rw (two-left pages a b e f)
+
+never : (b : Bool) → b ≡ true → b ≡ false → ⊥
+never b x y = let z : _≡_ {A = ℕ} 0 1 = cc in omega arith
+
+-- A plan whose push list is the freed numbers, then the old numbers of the pages from the top down to page `low`. Where the top page
+-- kept is whole, it keeps its old number, and is not pushed; where it is not, it is the last one pushed.
+pub record Pushes (c : ℕ) (l : FreeList) (freed : List ℕ) (mended : Bool) (low : ℕ) (t : Plan) : Type 0 where
+  pub list : t .pushed ≡ pushList freed mended (l .pages) low
+  pub many : length (t .pushed) ≡ length freed + (length (l .pages) - low)
+  pub most : low ≤ length (l .pages)
+  pub two : mended ≡ true → low + 2 ≤ length (l .pages)
+  pub whole-top : 1 ≤ t .kept → t .left ≡ c * t .kept → t .top ≡ getD (l .pages) (t .kept - 1) 0
+  pub whole : t .left ≡ c * t .kept → low ≡ t .kept
+  pub partial : (t .left ≡ c * t .kept → ⊥) → low + 1 ≡ t .kept
+  pub none : t .kept ≡ 0 → low ≡ 0
+
+module _ (c : ℕ) (l : FreeList) (k : ℕ) (freed : List ℕ) (bump : ℕ) (pos : 1 ≤ c) where
+  abbrev Pushing : Plan → Type 0
+  Pushing t = (low : ℕ) × Pushes c l freed (mends c l k) low t
+
+  counted : (low : ℕ) (ns : List ℕ) → ns ≡ pushList freed (mends c l k) (l .pages) low → length ns ≡ length freed + (length (l .pages) - low)
+  counted low ns e = ap length e ∙ length-pushList freed (mends c l k) (l .pages) low
+
+  after-list : mends c l k ≡ false → pushedAfter c l k freed ≡ pushList freed (mends c l k) (l .pages) (pagesAfter c l k)
+  unfolding pushedAfter pushList
+  after-list e = rw e
+
+  after-next : mends c l k ≡ false → (p low : ℕ) → pagesAfter c l k ≡ p → suc low ≡ p → p ≤ length (l .pages)
+      → pushedAfter c l k freed ++ (getD (l .pages) low 0 ∷ []) ≡ pushList freed (mends c l k) (l .pages) low
+  after-next e p low f g h =
+      ap (λ (ns : List ℕ). ns ++ (getD (l .pages) low 0 ∷ [])) (after-list e ∙ ap (pushList freed (mends c l k) (l .pages)) (f ∙ sym g))
+      ∙ push-next freed (mends c l k) (l .pages) low (omega arith) (λ x. absurd (never (mends c l k) x e))
+
+  after-two : mends c l k ≡ true → pagesAfter c l k ≡ length (l .pages) → (a b : ℕ) → suc a ≡ b → suc b ≡ length (l .pages)
+      → pushedAfter c l k freed ++ (getD (l .pages) a 0 ∷ getD (l .pages) b 0 ∷ []) ≡ pushList freed (mends c l k) (l .pages) a
+  unfolding pushedAfter
+  after-two e z a b f g =
+      ap (λ (ns : List ℕ). ns ++ (getD (l .pages) a 0 ∷ getD (l .pages) b 0 ∷ [])) nothing
+      ∙ push-two freed (l .pages) a b f g
+      ∙ ap (λ (m : Bool). pushList freed m (l .pages) a) (sym e)
+    where
+      nothing : freed ++ reverse (drop (pagesAfter c l k) (l .pages)) ≡ freed
+      nothing = rw (drop-of-length-le (l .pages) {i = pagesAfter c l k} (omega arith), append-nil)
+
+  first-none : mends c l k ≡ false → pagesAfter c l k ≡ 0 → Pushing (noneLeft c l (pushedAfter c l k freed) bump)
+  first-none e z =
+      let list = after-list e ∙ ap (pushList freed (mends c l k) (l .pages)) z in
+      (0, record {
+        list = list;
+        many = counted 0 _ list;
+        most = omega arith;
+        two = λ x. absurd (never (mends c l k) x e);
+        whole-top = λ one _. absurd (omega arith);
+        whole = λ _. refl;
+        partial = λ ne. absurd (ne (sym (mul-zero c)));
+        none = λ _. refl;
+      })
+
+  first-mending : k ≡ 0 → 1 ≤ length (l .entries) → mends c l k ≡ true → 2 ≤ length (l .pages) → length (l .entries) ≡ c * (length (l .pages) - 1)
+      → pagesAfter c l k ≡ length (l .pages) → Pushing (mended c l (length (l .entries) - suc k) (pushedAfter c l k freed) bump)
+  first-mending e some f two all z =
+      let list = after-two f z (length (l .pages) - 2) (length (l .pages) - 1) (omega arith) (omega arith) in
+      (length (l .pages) - 2, record {
+        list = list;
+        many = counted (length (l .pages) - 2) _ list;
+        most = omega arith;
+        two = λ _. omega arith;
+        whole-top = λ one x. absurd (omega arith);
+        whole = λ x. absurd (omega arith);
+        partial = λ ne. omega (arith);
+        none = λ x. omega arith;
+      })
+
+  first-emptying : mends c l k ≡ false → (p n : ℕ) → pagesAfter c l k ≡ p → 1 ≤ p → p ≤ length (l .pages) → n ≡ c * (p - 1) → Pushing (emptied c l p n (pushedAfter c l k freed) bump)
+  first-emptying e p n f one most x =
+      let list = after-next e p (p - 1) f (omega arith) most in
+      (p - 1, record {
+        list = list;
+        many = counted (p - 1) _ list;
+        most = omega arith;
+        two = λ x. absurd (never (mends c l k) x e);
+        whole-top = λ one _. ap (λ (i : ℕ). getD (l .pages) i 0) (omega arith);
+        whole = λ _. refl;
+        partial = λ ne. absurd (ne x);
+        none = λ x. x;
+      })
+
+  first-renumbering : mends c l k ≡ false → (p n : ℕ) → pagesAfter c l k ≡ p → 1 ≤ p → p ≤ length (l .pages) → n < c * p → Pushing (renumbered c l p n (pushedAfter c l k freed) bump)
+  first-renumbering e p n f one most lt =
+      let list = after-next e p (p - 1) f (omega arith) most in
+      (p - 1, record {
+        list = list;
+        many = counted (p - 1) _ list;
+        most = omega arith;
+        two = λ x. absurd (never (mends c l k) x e);
+        whole-top = λ one x. absurd (omega arith);
+        whole = λ x. absurd (omega arith);
+        partial = λ ne. omega arith;
+        none = λ x. omega arith;
+      })
+
+  pushes-first : FirstCases c l k freed bump Pushing
+  pushes-first =
+      record {
+        none = λ h e z. first-none e z;
+        mending = first-mending;
+        emptying = λ lt e one most x. first-emptying e _ _ refl one most x;
+        renumbering = λ lt e one most fits. first-renumbering e _ _ refl one most (omega arith);
+      }
+
+  turn-swap : (t : Plan) → Pushing t → 1 ≤ t .kept → t .left ≡ c * t .kept → Pushing (swapTop c l t)
+  turn-swap t (low, p) one x =
+      let list : t .pushed ++ (t .top ∷ []) ≡ pushList freed (mends c l k) (l .pages) (t .kept - 1) =
+      ap₂ (λ (ns : List ℕ) (n : ℕ). ns ++ (n ∷ [])) (p .list ∙ ap (pushList freed (mends c l k) (l .pages)) (p .whole x ∙ omega arith)) (p .whole-top one x)
+      ∙ push-next freed (mends c l k) (l .pages) (t .kept - 1) (omega (arith, p .whole x, p .most)) (λ y. omega (arith, p .two y, p .whole x)) in
+      let some : 1 ≤ t .left = omega (arith, mul-le-mul-left c one) in
+      (t .kept - 1, record {
+        list = list;
+        many = counted (t .kept - 1) _ list;
+        most = omega (arith, p .whole x, p .most);
+        two = λ y. omega (arith, p .two y, p .whole x);
+        whole-top = λ one y. absurd (omega arith);
+        whole = λ y. absurd (omega arith);
+        partial = λ ne. omega arith;
+        none = λ y. absurd (omega arith);
+      })
+
+  turn-take : (t : Plan) → Bounded c l k t → Pushing t → 1 ≤ t .left → (t .left ≡ c * t .kept → ⊥) → Pushing (takeEntry c l t)
+  turn-take t b (low, p) some ne =
+      (low, record {
+        list = p .list;
+        many = p .many;
+        most = p .most;
+        two = p .two;
+        whole-top = λ one y. absurd (omega (arith, b .fits));
+        whole = λ y. absurd (omega (arith, b .fits));
+        partial = λ _. p .partial ne;
+        none = p .none;
+      })
+
+  turn-last : (t : Plan) → Pushing t → 1 ≤ t .kept → (t .left ≡ c * t .kept → ⊥) → t .left - 1 ≡ c * (t .kept - 1) → Pushing (takeLast c l t)
+  turn-last t (low, p) one ne x =
+      (low, record {
+        list = p .list;
+        many = p .many;
+        most = p .most;
+        two = p .two;
+        whole-top = λ one _. ap (λ (i : ℕ). getD (l .pages) i 0) (omega arith);
+        whole = λ _. omega (arith, p .partial ne);
+        partial = λ y. absurd (y x);
+        none = λ y. omega (arith, p .partial ne);
+      })
+
+  turn-bump : (t : Plan) → Pushing t → Pushing (takeBump c l t)
+  turn-bump t (low, p) =
+      (low, record { list = p .list; many = p .many; most = p .most; two = p .two; whole-top = p .whole-top; whole = p .whole; partial = p .partial; none = p .none })
+
+  pushes-turns : TurnCases c l k freed bump Pushing
+  pushes-turns =
+      record {
+        swapping = λ t b p one x. turn-swap t p one x;
+        taking = λ t b p some one ne. turn-take t b p some ne;
+        taking-last = λ t b p some one ne x. turn-last t p one ne x;
+        bumping = λ t b p. turn-bump t p;
+      }
+
+  -- The push list of a finish is the freed numbers, then the old numbers of the pages from the top down to the one that its length
+  -- tells, without a gap; a list that was mended has the page under the head first.
+  module _ (shape : isShape c (length (l .pages)) (length (l .entries)) ≡ true) where
+    pub plan-pushes : Pushes c l freed (mends c l k) (length (l .pages) - (length (planOf c l k freed bump .pushed) - length freed)) (planOf c l k freed bump)
+    plan-pushes = told (plan-run c l k freed bump Pushing pos shape pushes-first pushes-turns .1)
+      where
+        told : Pushing (planOf c l k freed bump) → Pushes c l freed (mends c l k) (length (l .pages) - (length (planOf c l k freed bump .pushed) - length freed)) (planOf c l k freed bump)
+        told (low, p) = subst (λ (n : ℕ). Pushes c l freed (mends c l k) n (planOf c l k freed bump)) (omega (arith, p .many, p .most)) p
+
+    -- what is left fits on the pages kept
+    pub plan-bounded : Bounded c l k (planOf c l k freed bump)
+    plan-bounded = plan-run c l k freed bump Pushing pos shape pushes-first pushes-turns .0
+
+    -- it is no shorter than the freed numbers, and longer by no more than the pages
+    pub plan-longer : length freed ≤ length (planOf c l k freed bump .pushed)
+    plan-longer = omega (arith, plan-pushes .many)
+
+    pub plan-few : length (planOf c l k freed bump .pushed) - length freed ≤ length (l .pages)
+    plan-few = omega (arith, plan-pushes .many)
