@@ -109,7 +109,7 @@ module _ (c : ℕ) (l : FreeList) (k bump : ℕ) where
     fresh-last some ne x =
         record {
           news = two-more (Taken l k bump (takeLast c l t)) (t .fresh) _ _ (λ n m. taken-more t (takeLast c l t) (omega arith) (omega arith) n (f .news n m)) (inl (popped t b some))
-            (inl (between-more (t .left) (t .left - 1) (t .top) (omega arith) (f .top ne)));
+              (inl (between-more (t .left) (t .left - 1) (t .top) (omega arith) (f .top ne)));
           past = f .past;
           top = λ y. absurd (y x);
         }

@@ -4,4 +4,6 @@ pub mod TablesLaws
 pub mod EncodeLaws
 pub mod NewListLaws
 pub mod PushLaws
+pub mod FreshLaws
+pub mod CountLaws
 pub mod FinishLaws

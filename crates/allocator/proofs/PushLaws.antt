@@ -1,10 +1,10 @@
 -- The plan of a finish, case by case; and its push list: the freed numbers, then the old numbers of the pages from the top down.
 use Prim.Native.Nat.{ℕ, zero, suc, _+_, _*_, _-_, _/_, _<_, _≤_}
-use native.Mathlib.Nat.{mul-zero, mul-suc, mul-le-mul-left, lt-div-mul-add, div-lt-iff-lt-mul, not-suc-le-zero}
+use native.Mathlib.Nat.{mul-zero, mul-le-mul-left, lt-div-mul-add, div-lt-iff-lt-mul, not-suc-le-zero}
 use native.Mathlib.Omega.{arith}
 use mathlib.Core.Path.{_≡_, refl, ap, ap₂, sym, _∙_, subst}
 use mathlib.Core.Logic.{_⊎_, inl, inr}
-use mathlib.Core.Bool.{Bool, true, false, _&&_, _||_, cond}
+use mathlib.Core.Bool.{Bool, true, false, _&&_, cond}
 use mathlib.Core.List.{List, [], _∷_, _++_, reverse, reverse-cons, append-nil, append-assoc}
 use lib.Dec.{leb, ltb, eqb}
 use lib.ListN.{length, getD, drop, length-append, length-drop, length-reverse, drop-of-length-le}
@@ -231,7 +231,7 @@ two-left : (pages : List ℕ) (a b : ℕ) → suc a ≡ b → suc b ≡ length p
 two-left pages a b e f =
     drop-cons pages a 0 (omega arith)
     ∙ ap (λ (ns : List ℕ). getD pages a 0 ∷ ns)
-      (ap (λ (n : ℕ). drop n pages) e ∙ drop-cons pages b 0 (omega arith) ∙ ap (λ (ns : List ℕ). getD pages b 0 ∷ ns) (drop-of-length-le pages {i = suc b} (omega arith)))
+    (ap (λ (n : ℕ). drop n pages) e ∙ drop-cons pages b 0 (omega arith) ∙ ap (λ (ns : List ℕ). getD pages b 0 ∷ ns) (drop-of-length-le pages {i = suc b} (omega arith)))
 
 push-two : (freed pages : List ℕ) (a b : ℕ) → suc a ≡ b → suc b ≡ length pages → freed ++ (getD pages a 0 ∷ getD pages b 0 ∷ []) ≡ pushList freed true pages a
 unfolding pushList
@@ -282,60 +282,68 @@ module _ (c : ℕ) (l : FreeList) (k : ℕ) (freed : List ℕ) (bump : ℕ) (pos
 
   first-none : mends c l k ≡ false → pagesAfter c l k ≡ 0 → Pushing (noneLeft c l (pushedAfter c l k freed) bump)
   first-none e z =
-      let list = after-list e ∙ ap (pushList freed (mends c l k) (l .pages)) z in
-      (0, record {
-        list = list;
-        many = counted 0 _ list;
-        most = omega arith;
-        two = λ x. absurd (never (mends c l k) x e);
-        whole-top = λ one _. absurd (omega arith);
-        whole = λ _. refl;
-        partial = λ ne. absurd (ne (sym (mul-zero c)));
-        none = λ _. refl;
-      })
+      let list = after-list e ∙ ap (pushList freed (mends c l k) (l .pages)) z in (
+        0,
+        record {
+          list = list;
+          many = counted 0 _ list;
+          most = omega arith;
+          two = λ x. absurd (never (mends c l k) x e);
+          whole-top = λ one _. absurd (omega arith);
+          whole = λ _. refl;
+          partial = λ ne. absurd (ne (sym (mul-zero c)));
+          none = λ _. refl;
+        },
+      )
 
   first-mending : k ≡ 0 → 1 ≤ length (l .entries) → mends c l k ≡ true → 2 ≤ length (l .pages) → length (l .entries) ≡ c * (length (l .pages) - 1)
       → pagesAfter c l k ≡ length (l .pages) → Pushing (mended c l (length (l .entries) - suc k) (pushedAfter c l k freed) bump)
   first-mending e some f two all z =
-      let list = after-two f z (length (l .pages) - 2) (length (l .pages) - 1) (omega arith) (omega arith) in
-      (length (l .pages) - 2, record {
-        list = list;
-        many = counted (length (l .pages) - 2) _ list;
-        most = omega arith;
-        two = λ _. omega arith;
-        whole-top = λ one x. absurd (omega arith);
-        whole = λ x. absurd (omega arith);
-        partial = λ ne. omega (arith);
-        none = λ x. omega arith;
-      })
+      let list = after-two f z (length (l .pages) - 2) (length (l .pages) - 1) (omega arith) (omega arith) in (
+        length (l .pages) - 2,
+        record {
+          list = list;
+          many = counted (length (l .pages) - 2) _ list;
+          most = omega arith;
+          two = λ _. omega arith;
+          whole-top = λ one x. absurd (omega arith);
+          whole = λ x. absurd (omega arith);
+          partial = λ ne. omega (arith);
+          none = λ x. omega arith;
+        },
+      )
 
   first-emptying : mends c l k ≡ false → (p n : ℕ) → pagesAfter c l k ≡ p → 1 ≤ p → p ≤ length (l .pages) → n ≡ c * (p - 1) → Pushing (emptied c l p n (pushedAfter c l k freed) bump)
   first-emptying e p n f one most x =
-      let list = after-next e p (p - 1) f (omega arith) most in
-      (p - 1, record {
-        list = list;
-        many = counted (p - 1) _ list;
-        most = omega arith;
-        two = λ x. absurd (never (mends c l k) x e);
-        whole-top = λ one _. ap (λ (i : ℕ). getD (l .pages) i 0) (omega arith);
-        whole = λ _. refl;
-        partial = λ ne. absurd (ne x);
-        none = λ x. x;
-      })
+      let list = after-next e p (p - 1) f (omega arith) most in (
+        p - 1,
+        record {
+          list = list;
+          many = counted (p - 1) _ list;
+          most = omega arith;
+          two = λ x. absurd (never (mends c l k) x e);
+          whole-top = λ one _. ap (λ (i : ℕ). getD (l .pages) i 0) (omega arith);
+          whole = λ _. refl;
+          partial = λ ne. absurd (ne x);
+          none = λ x. x;
+        },
+      )
 
   first-renumbering : mends c l k ≡ false → (p n : ℕ) → pagesAfter c l k ≡ p → 1 ≤ p → p ≤ length (l .pages) → n < c * p → Pushing (renumbered c l p n (pushedAfter c l k freed) bump)
   first-renumbering e p n f one most lt =
-      let list = after-next e p (p - 1) f (omega arith) most in
-      (p - 1, record {
-        list = list;
-        many = counted (p - 1) _ list;
-        most = omega arith;
-        two = λ x. absurd (never (mends c l k) x e);
-        whole-top = λ one x. absurd (omega arith);
-        whole = λ x. absurd (omega arith);
-        partial = λ ne. omega arith;
-        none = λ x. omega arith;
-      })
+      let list = after-next e p (p - 1) f (omega arith) most in (
+        p - 1,
+        record {
+          list = list;
+          many = counted (p - 1) _ list;
+          most = omega arith;
+          two = λ x. absurd (never (mends c l k) x e);
+          whole-top = λ one x. absurd (omega arith);
+          whole = λ x. absurd (omega arith);
+          partial = λ ne. omega arith;
+          none = λ x. omega arith;
+        },
+      )
 
   pushes-first : FirstCases c l k freed bump Pushing
   pushes-first =
@@ -351,43 +359,49 @@ module _ (c : ℕ) (l : FreeList) (k : ℕ) (freed : List ℕ) (bump : ℕ) (pos
       let list : t .pushed ++ (t .top ∷ []) ≡ pushList freed (mends c l k) (l .pages) (t .kept - 1) =
       ap₂ (λ (ns : List ℕ) (n : ℕ). ns ++ (n ∷ [])) (p .list ∙ ap (pushList freed (mends c l k) (l .pages)) (p .whole x ∙ omega arith)) (p .whole-top one x)
       ∙ push-next freed (mends c l k) (l .pages) (t .kept - 1) (omega (arith, p .whole x, p .most)) (λ y. omega (arith, p .two y, p .whole x)) in
-      let some : 1 ≤ t .left = omega (arith, mul-le-mul-left c one) in
-      (t .kept - 1, record {
-        list = list;
-        many = counted (t .kept - 1) _ list;
-        most = omega (arith, p .whole x, p .most);
-        two = λ y. omega (arith, p .two y, p .whole x);
-        whole-top = λ one y. absurd (omega arith);
-        whole = λ y. absurd (omega arith);
-        partial = λ ne. omega arith;
-        none = λ y. absurd (omega arith);
-      })
+      let some : 1 ≤ t .left = omega (arith, mul-le-mul-left c one) in (
+        t .kept - 1,
+        record {
+          list = list;
+          many = counted (t .kept - 1) _ list;
+          most = omega (arith, p .whole x, p .most);
+          two = λ y. omega (arith, p .two y, p .whole x);
+          whole-top = λ one y. absurd (omega arith);
+          whole = λ y. absurd (omega arith);
+          partial = λ ne. omega arith;
+          none = λ y. absurd (omega arith);
+        },
+      )
 
   turn-take : (t : Plan) → Bounded c l k t → Pushing t → 1 ≤ t .left → (t .left ≡ c * t .kept → ⊥) → Pushing (takeEntry c l t)
-  turn-take t b (low, p) some ne =
-      (low, record {
-        list = p .list;
-        many = p .many;
-        most = p .most;
-        two = p .two;
-        whole-top = λ one y. absurd (omega (arith, b .fits));
-        whole = λ y. absurd (omega (arith, b .fits));
-        partial = λ _. p .partial ne;
-        none = p .none;
-      })
+  turn-take t b (low, p) some ne = (
+    low,
+    record {
+      list = p .list;
+      many = p .many;
+      most = p .most;
+      two = p .two;
+      whole-top = λ one y. absurd (omega (arith, b .fits));
+      whole = λ y. absurd (omega (arith, b .fits));
+      partial = λ _. p .partial ne;
+      none = p .none;
+    },
+  )
 
   turn-last : (t : Plan) → Pushing t → 1 ≤ t .kept → (t .left ≡ c * t .kept → ⊥) → t .left - 1 ≡ c * (t .kept - 1) → Pushing (takeLast c l t)
-  turn-last t (low, p) one ne x =
-      (low, record {
-        list = p .list;
-        many = p .many;
-        most = p .most;
-        two = p .two;
-        whole-top = λ one _. ap (λ (i : ℕ). getD (l .pages) i 0) (omega arith);
-        whole = λ _. omega (arith, p .partial ne);
-        partial = λ y. absurd (y x);
-        none = λ y. omega (arith, p .partial ne);
-      })
+  turn-last t (low, p) one ne x = (
+    low,
+    record {
+      list = p .list;
+      many = p .many;
+      most = p .most;
+      two = p .two;
+      whole-top = λ one _. ap (λ (i : ℕ). getD (l .pages) i 0) (omega arith);
+      whole = λ _. omega (arith, p .partial ne);
+      partial = λ y. absurd (y x);
+      none = λ y. omega (arith, p .partial ne);
+    },
+  )
 
   turn-bump : (t : Plan) → Pushing t → Pushing (takeBump c l t)
   turn-bump t (low, p) =

@@ -1,12 +1,17 @@
 -- The finish's work in parts. Only private functions cite these.
-use Prim.Native.Nat.{ℕ, _*_, _-_, _≤_}
+use Prim.Native.Nat.{ℕ, _+_, _*_, _-_, _≤_}
+use mathlib.Core.Path.{_≡_}
 use mathlib.Core.Bool.{Bool, true, false, cond}
 use mathlib.Core.List.{List, [], _∷_, _++_, reverse}
 use lib.Dec.{leb, eqb}
 use lib.ListN.{length, getD, take, drop}
 use Rattle.page.specs.PageSize.{PageSize, capacity}
 use Rattle.free_list.specs.Shape.{FreeList}
-use Rattle.preallocate.specs.Plan.{Plan}
+use Rattle.page.specs.Growth.{maxBump}
+use Rattle.preallocate.specs.Plan.{Plan, planOf}
+use Rattle.preallocate.specs.Counts.{counts, Planable}
+use Rattle.preallocate.specs.declared.turns.Plan.{Plan as Counts}
+use Rattle.allocator.specs.Finish.{Finished, carriedOut}
 
 -- the first two change places, where asked
 abbrev pub swapIf : Bool → List ℕ → List ℕ
@@ -40,3 +45,22 @@ previous pages j = cond (eqb j 0) 0 (getD pages (j - 1) 0)
 -- the numbers of the pages that are written: the top page's, if one is kept, and the new pages'
 unfoldable pub newNumbers : Plan → List ℕ
 newNumbers t = cond (leb 1 (t .kept)) (t .top ∷ t .fresh) (t .fresh)
+
+-- the plan of a finish for the list that two tables hold, and what is carried out by it
+abbrev pub planIn : ℕ → List ℕ → List ℕ → ℕ → ℕ → ℕ → List ℕ → ℕ → Plan
+planIn c pages entries P L popped freed bump = planOf c (tableList pages entries P L) popped freed bump
+
+abbrev pub carriedIn : ℕ → List ℕ → List ℕ → ℕ → ℕ → ℕ → List ℕ → ℕ → Finished
+carriedIn s pages entries P L popped freed bump = carriedOut s (tableList pages entries P L) (planIn (capacity s) pages entries P L popped freed bump)
+
+-- a plan that has room in the tables, the buffer and the number list
+pub record Writable (s : ℕ) (pages entries : List ℕ) (P L popped bump : ℕ) (freed : List ℕ) (planned : Counts) (bytes numbers : ℕ) : Type 0 where
+  pub size : PageSize s
+  pub planable : Planable (capacity s) pages entries P L popped bump
+  pub is : planned ≡ counts (planIn (capacity s) pages entries P L popped freed bump)
+  pub limit : planned .bump ≤ maxBump
+  pub some : 1 ≤ planned .pushed
+  pub pages-fit : planned .pages + planned .fresh ≤ length pages
+  pub entries-fit : planned .entries + planned .pushed ≤ length entries
+  pub bytes-fit : s * (planned .pages + planned .fresh - (planned .pages - 1)) ≤ bytes
+  pub numbers-fit : planned .pages + planned .fresh - (planned .pages - 1) ≤ numbers

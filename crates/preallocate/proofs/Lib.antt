@@ -1,0 +1,4 @@
+-- Laws about the definitions of this crate, for the proofs here and above.
+pub mod StepsLaws
+pub mod FirstLaws
+pub mod PlanLaws

@@ -1,0 +1,267 @@
+-- The turns in numbers: what each keeps, that the work falls, and how a turn's numbers join those of the turns after it.
+-- By cases of a turn; the products are `omega`'s. Assumes nothing.
+use Prim.Native.Nat.{ℕ, zero, suc, _+_, _-_, _*_, _^_, _≤_, _<_}
+use native.Mathlib.Nat.{mul-add, mul-one, mul-zero, le-mul-of-pos-right, mul-comm}
+use native.Mathlib.Omega.{arith}
+use mathlib.Core.Path.{_≡_, refl, sym, ap, subst, _∙_}
+use mathlib.Core.Logic.{_≢_}
+use mathlib.Core.List.{List, [], _∷_, _++_}
+use mathlib.Core.Bool.{Bool, true, false, cond, _&&_, false≢true}
+use lib.ListN.{length, getD}
+use lib.Seq.{sets}
+use lib.Dec.{leb, ltb, eqb}
+use borrow.Author.Tests.{lt-ltb, le-ltb, le-leb, eq-eqb, ne-eqb, ltb-true, ltb-false, leb-true, leb-false, eqb-true, eqb-false}
+use Rattle.refusal.proofs.Cases.{and-true}
+use Rattle.page.proofs.SetsLaws.{sets-append}
+use Rattle.free_list.specs.Shape.{FreeList}
+use Rattle.preallocate.specs.declared.turns.Plan.{Plan as Counts}
+use Rattle.preallocate.specs.Steps.{roomOf, wholeOf, lastOf, swapped, bumped, shortened, emptied, taken, named, stepped, stepNames, planned, newPages, work, Sound, Small, Short, Planned}
+
+-- ---- products with the capacity that `omega` is not able to do by itself
+
+pub times-less : (c n : ℕ) → 0 < n → c * (n - 1) + c ≡ c * n
+times-less c (suc n) h = let e : suc n - 1 ≡ n = omega arith in rw e (omega arith)
+
+pub times-positive : (c n : ℕ) → 0 < c * n → 0 < n
+times-positive c zero h = let e : c * 0 ≡ 0 = mul-zero c in omega arith
+times-positive c (suc n) h = omega arith
+
+pub times-least : (c n : ℕ) → 0 < c → n ≤ c * n
+times-least c n h = subst (λ (k : ℕ). n ≤ k) (mul-comm n c) (le-mul-of-pos-right n h)
+
+-- ---- the cases of a turn
+
+pub whole-facts : (c : ℕ) (p : Counts) → wholeOf c p ≡ true → (0 < p .pages) × (p .entries ≡ c * p .pages)
+whole-facts c p e =
+    let t = and-true (leb 1 (p .pages)) (eqb (p .entries) (c * p .pages)) e in
+    (leb-true 1 (p .pages) (t .0), eqb-true (p .entries) (c * p .pages) (t .1))
+
+-- what a turn leaves, both its counts and its numbers, is shown in each case
+pub taken-cases : (c : ℕ) (l : FreeList) (p : Counts) (P : Counts → List ℕ → Type 0)
+    → (p .entries ≡ 0 → P (bumped p) (p .bump ∷ []))
+    → (0 < p .entries → p .entries - 1 ≡ c * (p .pages - 1) → P (emptied l p) (getD (l .entries) (p .entries - 1) 0 ∷ p .top ∷ []))
+    → (0 < p .entries → p .entries - 1 ≢ c * (p .pages - 1) → P (shortened p) (getD (l .entries) (p .entries - 1) 0 ∷ []))
+    → P (taken c l p) (named c l p)
+unfolding taken named
+taken-cases c l p P b e o = go (leb 1 (p .entries)) (lastOf c p) refl refl
+  where
+    x : ℕ
+    x = getD (l .entries) (p .entries - 1) 0
+
+    go : (s y : Bool) → leb 1 (p .entries) ≡ s → lastOf c p ≡ y
+        → P (cond s (cond y (emptied l p) (shortened p)) (bumped p)) (cond s (cond y (getD (l .entries) (p .entries - 1) 0 ∷ p .top ∷ []) (getD (l .entries) (p .entries - 1) 0 ∷ [])) (p .bump ∷ []))
+    go true true h y = e (leb-true 1 (p .entries) h) (eqb-true _ _ y)
+    go true false h y = o (leb-true 1 (p .entries) h) (eqb-false _ _ y)
+    go false true h y = b (omega (arith, leb-false 1 (p .entries) h))
+    go false false h y = b (omega (arith, leb-false 1 (p .entries) h))
+
+pub step-cases : (c : ℕ) (l : FreeList) (p : Counts) (P : Counts → List ℕ → Type 0)
+    → (0 < p .pages → p .entries ≡ c * p .pages → P (swapped l p) [])
+    → (p .entries ≡ 0 → P (bumped p) (p .bump ∷ []))
+    → (0 < p .entries → p .entries - 1 ≡ c * (p .pages - 1) → P (emptied l p) (getD (l .entries) (p .entries - 1) 0 ∷ p .top ∷ []))
+    → (0 < p .entries → p .entries - 1 ≢ c * (p .pages - 1) → P (shortened p) (getD (l .entries) (p .entries - 1) 0 ∷ []))
+    → P (stepped c l p) (stepNames c l p)
+unfolding stepped stepNames
+step-cases c l p P s b e o = go (wholeOf c p) refl
+  where
+    go : (x : Bool) → wholeOf c p ≡ x → P (cond x (swapped l p) (taken c l p)) (cond x [] (named c l p))
+    go true h = let w = whole-facts c p h in s (w .0) (w .1)
+    go false h = taken-cases c l p P b e o
+
+-- ---- what a turn keeps
+
+module _ {c : ℕ} {l : FreeList} {p : Counts} (sound : Sound c l p) where
+  pub pages-positive : 0 < p .entries → 0 < p .pages
+  pages-positive h = times-positive c (p .pages) (omega arith)
+
+  pub whole-entries : wholeOf c p ≡ true → 0 < p .entries
+  whole-entries w = let f = whole-facts c p w in omega (arith, times-less c (p .pages) (f .0))
+
+  -- the pages with one less
+  fewer : 0 < p .entries → c * (p .pages - 1) + c ≡ c * p .pages
+  fewer h = times-less c (p .pages) (pages-positive h)
+
+  sound-swapped : 0 < p .pages → p .entries ≡ c * p .pages → Sound c l (swapped l p)
+  sound-swapped h w = let f = times-less c (p .pages) h in omega arith
+
+  sound-emptied : 0 < p .entries → p .entries - 1 ≡ c * (p .pages - 1) → Sound c l (emptied l p)
+  sound-emptied h e = let f = fewer h in omega arith
+
+  sound-shortened : 0 < p .entries → p .entries - 1 ≢ c * (p .pages - 1) → Sound c l (shortened p)
+  sound-shortened h e = let f = fewer h in omega arith
+
+  pub sound-taken : Sound c l (taken c l p)
+  sound-taken = taken-cases c l p (λ q _. Sound c l q) (λ h. omega arith) sound-emptied sound-shortened
+
+  pub sound-stepped : Sound c l (stepped c l p)
+  sound-stepped = step-cases c l p (λ q _. Sound c l q) sound-swapped (λ h. omega arith) sound-emptied sound-shortened
+
+  -- the room with one page less and two more
+  room-emptied : 0 < p .entries → c * (p .pages - 1 + (p .fresh + 2)) ≡ c * (p .pages + p .fresh) + c
+  room-emptied h = let f = fewer h in omega arith
+
+  falls-swapped : 0 < p .pages → p .entries ≡ c * p .pages → work c (swapped l p) < work c p
+  falls-swapped h w = let f = times-less c (p .pages) h in omega arith
+
+  pub falls-taken : Short c p → work c (taken c l p) < work c p
+  falls-taken s =
+      taken-cases c l p (λ q _. work c q < work c p)
+      (λ h. omega arith)
+      (λ h e. let r = room-emptied h in omega arith)
+      (λ h e. omega arith)
+
+  pub falls-stepped : Short c p → work c (stepped c l p) < work c p
+  falls-stepped s =
+      step-cases c l p (λ q _. work c q < work c p)
+      falls-swapped
+      (λ h. omega arith)
+      (λ h e. let r = room-emptied h in omega arith)
+      (λ h e. omega arith)
+
+  -- the room after a turn is at most c more than is asked
+  pub near-stepped : Short c p → roomOf c (stepped c l p) ≤ stepped c l p .pushed + c
+  near-stepped s =
+      step-cases c l p (λ q _. roomOf c q ≤ q .pushed + c)
+      (λ h w. omega arith)
+      (λ h. omega arith)
+      (λ h e. let r = room-emptied h in omega arith)
+      (λ h e. omega arith)
+
+  -- ---- the sums have 64 bits
+
+  pub room-fits : Small c p → (p .pages + p .fresh < 2 ^ 64) × (p .entries ≤ c * (p .pages + p .fresh)) × (c * (p .pages + p .fresh) < 2 ^ 64)
+  room-fits small = omega (arith, times-least c (p .pages + p .fresh) (omega arith))
+
+  module _ (small : Small c p) (s : Short c p) where
+    pub fresh-small : p .fresh + 2 < 2 ^ 64
+    fresh-small = omega (arith, times-least c (p .pages + p .fresh) (omega arith))
+
+    pub small-swapped : 0 < p .pages → p .entries ≡ c * p .pages → Small c (swapped l p)
+    small-swapped h w = let f = times-less c (p .pages) h in omega arith
+
+    pub small-taken : Small c (taken c l p)
+    small-taken =
+        taken-cases c l p (λ q _. Small c q)
+        (λ h. omega arith)
+        (λ h e. let r = room-emptied h in omega arith)
+        (λ h e. omega arith)
+
+-- ---- how a turn's numbers join those of the turns after it
+
+fresh-taken : (c : ℕ) (l : FreeList) (p : Counts) → taken c l p .fresh ≡ p .fresh + length (named c l p)
+fresh-taken c l p = taken-cases c l p (λ q xs. q .fresh ≡ p .fresh + length xs) (λ h. refl) (λ h e. refl) (λ h e. refl)
+
+-- where the room is enough nothing is left to do
+pub planned-enough : (c : ℕ) (l : FreeList) (k : ℕ) (p : Counts) → p .pushed ≤ roomOf c p → planned c l k p ≡ p
+unfolding planned
+planned-enough c l zero p h = refl
+planned-enough c l (suc k) p h = rw (le-ltb (roomOf c p) (p .pushed) h, planned)
+
+pub new-enough : (c : ℕ) (l : FreeList) (k : ℕ) (p : Counts) → p .pushed ≤ roomOf c p → newPages c l k p ≡ []
+unfolding newPages
+new-enough c l zero p h = refl
+new-enough c l (suc k) p h = rw (le-ltb (roomOf c p) (p .pushed) h, newPages)
+
+-- where it is short a turn is taken
+pub planned-more : (c : ℕ) (l : FreeList) (k : ℕ) (p : Counts) → Short c p → planned c l (suc k) p ≡ planned c l k (stepped c l p)
+unfolding planned
+planned-more c l k p h = rw (lt-ltb (roomOf c p) (p .pushed) h, planned)
+
+pub new-more : (c : ℕ) (l : FreeList) (k : ℕ) (p : Counts) → Short c p → newPages c l (suc k) p ≡ stepNames c l p ++ newPages c l k (stepped c l p)
+unfolding newPages
+new-more c l k p h = rw (lt-ltb (roomOf c p) (p .pushed) h, newPages)
+
+-- the bump never falls
+pub bump-rises : (c : ℕ) (l : FreeList) (k : ℕ) (p : Counts) → p .bump ≤ planned c l k p .bump
+unfolding planned
+bump-rises c l zero p = omega arith
+bump-rises c l (suc k) p = go (ltb (roomOf c p) (p .pushed)) refl (bump-rises c l k (stepped c l p))
+  where
+    go : (x : Bool) → ltb (roomOf c p) (p .pushed) ≡ x → stepped c l p .bump ≤ planned c l k (stepped c l p) .bump
+        → p .bump ≤ planned c l (suc k) p .bump
+    go true e rest =
+        let s = step-cases c l p (λ q _. p .bump ≤ q .bump) (λ h w. omega arith) (λ h. omega arith) (λ h e. omega arith) (λ h e. omega arith) in
+        rw (planned-more c l k p (ltb-true (roomOf c p) (p .pushed) e)) (omega arith)
+    go false e rest = rw (planned-enough c l (suc k) p (ltb-false (roomOf c p) (p .pushed) e)) (omega arith)
+
+-- ---- what the code's calls say, joined
+
+-- nothing is left to do
+pub done : (c : ℕ) (l : FreeList) (p : Counts) (before : List ℕ) → p .pushed ≤ roomOf c p → Planned c l p before p before
+unfolding Planned
+done c l p before h k e =
+    (sym (planned-enough c l k p h), λ b. ap (λ (xs : List ℕ). sets before (p .fresh) xs) (sym (new-enough c l k p h)))
+
+module _ {c : ℕ} {l : FreeList} {p : Counts} (sound : Sound c l p) (s : Short c p) where
+  -- a swap, and what is done after it
+  pub then-swapped : (before : List ℕ) (r : Counts) (after : List ℕ) → wholeOf c p ≡ true
+      → Planned c l (swapped l p) before r after → Planned c l p before r after
+  unfolding Planned stepped stepNames
+  then-swapped before r after w rest zero e = absurd (omega arith)
+  then-swapped before r after w rest (suc k) e =
+      let f = whole-facts c p w in
+      let d = falls-swapped sound (f .0) (f .1) in
+      rw (planned-more c l k p s, new-more c l k p s, w) (rest k (omega arith))
+
+  -- a page taken, and what is done after it
+  then-taken : (before mid : List ℕ) (r : Counts) (after : List ℕ) → wholeOf c p ≡ false
+      → (taken c l p .bump ≤ 2 ^ 32 → mid ≡ sets before (p .fresh) (named c l p))
+      → Planned c l (taken c l p) mid r after → Planned c l p before r after
+  unfolding Planned stepped stepNames
+  then-taken before mid r after w m rest zero e = absurd (omega arith)
+  then-taken before mid r after w m rest (suc k) e =
+      let d = falls-taken sound s in
+      let q = rest k (omega arith) in
+      let up : taken c l p .bump ≤ r .bump = rw (q .0) (bump-rises c l k (taken c l p)) in
+      rw (planned-more c l k p s, new-more c l k p s, w) (
+        q .0,
+        λ b. q .1 b ∙ rw (m (omega arith), sets-append before (p .fresh) (named c l p) (newPages c l k (taken c l p)), ← fresh-taken c l p),
+      )
+
+  -- after a swap less work is left, no whole page is at the top, and the room is as short as before
+  pub swapped-ready : Small c p → wholeOf c p ≡ true
+      → (work c (swapped l p) < work c p) × (Sound c l (swapped l p) × Small c (swapped l p) × Short c (swapped l p) × (wholeOf c (swapped l p) ≡ false))
+  swapped-ready small w =
+      let f = whole-facts c p w in
+      let n = times-less c (p .pages) (f .0) in (
+        falls-swapped sound (f .0) (f .1),
+        (
+          sound-swapped sound (f .0) (f .1),
+          small-swapped sound small s (f .0) (f .1),
+          omega arith,
+          rw (le-leb 1 (p .pages) (f .0), ne-eqb (p .entries - 1) (c * p .pages) (omega arith)),
+        ),
+      )
+
+-- ---- a part of a run that takes pages only, from the counts q₀ and their buffer to the counts q and their own
+
+pub record Along (c : ℕ) (l : FreeList) (q₀ : Counts) (out₀ : List ℕ) (q : Counts) (out : List ℕ) : Type 0 where
+  pub sound : Sound c l q
+  pub small : Small c q
+  pub less : work c q ≤ work c q₀
+  pub same : length out ≡ length out₀
+  pub planned : (r : Counts) (after : List ℕ) → Planned c l q out r after → Planned c l q₀ out₀ r after
+
+pub along-start : {c : ℕ} {l : FreeList} {q : Counts} {out : List ℕ} → Sound c l q → Small c q → Along c l q out q out
+along-start sound small = record { sound = sound; small = small; less = omega arith; same = refl; planned = λ r after h. h }
+
+pub along-more : {c : ℕ} {l : FreeList} {q₀ q r : Counts} {out₀ out mid : List ℕ} → Along c l q₀ out₀ q out → Short c q → wholeOf c q ≡ false
+    → r ≡ taken c l q → (r .bump ≤ 2 ^ 32 → mid ≡ sets out (q .fresh) (named c l q)) → length mid ≡ length out
+    → (work c r < work c q) × Along c l q₀ out₀ r mid
+along-more {c} {l} {q₀} {q} {r} {out₀} {out} {mid} a s w e m n =
+    let falls : work c r < work c q = rw e (falls-taken (a .sound) s) in (
+      falls,
+      record {
+        sound = rw e (sound-taken (a .sound));
+        small = rw e (small-taken (a .sound) (a .small) s);
+        less = omega (arith, a .less);
+        same = n ∙ a .same;
+        planned = λ x after h. a .planned x after (then-taken (a .sound) s out mid x after w (rw e at m) (rw e at h));
+      },
+    )
+
+-- the first page that is taken begins such a part
+pub along-first : {c : ℕ} {l : FreeList} {p r : Counts} {out mid : List ℕ} → Sound c l p × Small c p × Short c p × (wholeOf c p ≡ false)
+    → (r ≡ taken c l p) × (r .bump ≤ 2 ^ 32 → mid ≡ sets out (p .fresh) (named c l p)) → length mid ≡ length out
+    → (work c r < work c p) × Along c l p out r mid
+along-first a e n = along-more (along-start (a .0) (a .1)) (a .2) (a .3) (e .0) (e .1) n

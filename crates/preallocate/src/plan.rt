@@ -1,0 +1,115 @@
+// The plan of a finish: the first number popped, then turns until there is room for the push list.
+ghost use mathlib.Core.Path.{_≡_};
+ghost use mathlib.Core.Bool.{_&&_};
+ghost use Prim.Native.Nat.{_*_, _^_, _≤_, _<_};
+ghost use lib.Dec.{eqb};
+ghost use lib.ListN.{length, take};
+ghost use lib.Seq.{sets};
+ghost use Rattle.free_list.specs.Shape.{isFragmented};
+ghost use Rattle.preallocate.specs.Plan.{pagesAfter, firstPlan, planOf};
+ghost use Rattle.preallocate.specs.Counts.{counts, listed, Planable};
+pub use crate::turns::Plan;
+use crate::turns::make_room;
+use crate::turns::put;
+use crate::turns::under;
+
+// How many pages of a list of so many pages and entries are left after `popped` pops.
+fn pages_after(c: usize, pages: &[u32], entries: &[u32], popped: usize) -> usize
+    requires { ⌜ (1 ≤ c) × (c ≤ 16384) × (popped ≤ length (now entries)) ⌝ }
+    ensures { λ r. ⌜ r ≡ pagesAfter c (listed (now (pages .entry)) (now (entries .entry))) popped ⌝ }
+{
+    if popped == 0 {
+        return pages.len();
+    }
+    (entries.len() - popped + (c - 1)) / c
+}
+
+// Whether nothing is popped from a list of p pages and n entries that has a page more than it needs.
+fn mends(c: usize, p: usize, n: usize, popped: usize) -> bool
+    requires { ⌜ c * p < 2 ^ 64 ⌝ }
+    ensures { λ r. ⌜ r ≡ (eqb popped 0 && isFragmented c p n) ⌝ }
+{
+    popped == 0 && (2 <= p && n == c * (p - 1))
+}
+
+// The plan after the first number is popped, if one is left.
+fn first_plan(
+    c: usize,
+    pages: &[u32],
+    entries: &[u32],
+    popped: usize,
+    freed: &[u32],
+    bump: usize,
+    out: &mut [u32],
+) -> Plan
+    requires { ⌜ Planable c (now pages) (now entries) (length (now pages)) (length (now entries)) popped bump ⌝ }
+    ensures plan { λ r. ⌜ r ≡ counts (firstPlan c (listed (now (pages .entry)) (now (entries .entry))) popped (now (freed .entry)) bump) ⌝ }
+    ensures out { λ _. ⌜ now (out .exit) ≡ sets (now (out .entry)) 0 (firstPlan c (listed (now (pages .entry)) (now (entries .entry))) popped (now (freed .entry)) bump .fresh) ⌝ }
+{
+    let kept = pages_after(c, pages, entries, popped);
+    let pushed = freed.len() + (pages.len() - kept);
+    if entries.len() <= popped {
+        return Plan {
+            pages: 0,
+            entries: 0,
+            pushed: pushed,
+            fresh: 0,
+            bump: bump,
+            top: 0,
+        };
+    }
+    let last = entries.len() - (popped + 1);
+    if mends(c, pages.len(), entries.len(), popped) {
+        return Plan {
+            pages: pages.len() - 1,
+            entries: last,
+            pushed: pushed + 2,
+            fresh: 0,
+            bump: bump,
+            top: entries[last],
+        };
+    }
+    if last == c * (kept - 1) {
+        put(out, 0, entries[last]);
+        return Plan {
+            pages: kept - 1,
+            entries: last,
+            pushed: pushed + 1,
+            fresh: 1,
+            bump: bump,
+            top: under(pages, kept),
+        };
+    }
+    Plan {
+        pages: kept,
+        entries: last,
+        pushed: pushed + 1,
+        fresh: 0,
+        bump: bump,
+        top: entries[last],
+    }
+}
+
+// The plan of a finish. The first `p` and `l` places of the two tables are the list, from the bottom page up;
+// `popped` of its entries were handed out, and `freed` are the numbers freed. The new pages' numbers go to `out` as far as it
+// reaches: with an empty slice this only counts.
+pub fn plan(
+    c: usize,
+    pages: &[u32],
+    entries: &[u32],
+    p: usize,
+    l: usize,
+    popped: usize,
+    freed: &[u32],
+    bump: usize,
+    out: &mut [u32],
+) -> Plan
+    requires { ⌜ Planable c (now pages) (now entries) p l popped bump ⌝ }
+    ensures plan { λ r. ⌜ r ≡ counts (planOf c (listed (take p (now (pages .entry))) (take l (now (entries .entry)))) popped (now (freed .entry)) bump) ⌝ }
+    ensures out { λ r. ⌜ (r .bump ≤ 2 ^ 32 → now (out .exit) ≡ sets (now (out .entry)) 0 (planOf c (listed (take p (now (pages .entry))) (take l (now (entries .entry)))) popped (now (freed .entry)) bump .fresh)) ⌝ }
+{
+    let pages = &pages[..p];
+    let entries = &entries[..l];
+    let first = first_plan(c, pages, entries, popped, freed, bump, out);
+    make_room(c, pages, entries, out, first)
+}
