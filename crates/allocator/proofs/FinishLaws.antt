@@ -64,7 +64,7 @@ module _ (s : ℕ) (v : Save) (freed buffer numbers : List ℕ) where
 
               pub finish-done : length (f .written) ≤ length numbers
                   → effect (answer (finishAnswer v f)) (sets (v .pageTable) 0 (f .list .pages)) (sets (v .entryTable) 0 (f .list .entries))
-                    (sets buffer 0 (bytesOfPages (f .written))) (sets numbers 0 (map (λ (w : Write). w .number) (f .written)))
+                  (sets buffer 0 (bytesOfPages (f .written))) (sets numbers 0 (map (λ (w : Write). w .number) (f .written)))
                   ≡ finishInto s v freed buffer numbers
               unfolding finishInto finish
               finish-done h = rw (is, state, le-leb _ _ limit, none-bad, le-leb _ _ pages-fit, le-leb _ _ entries-fit, le-leb _ _ bytes-fit, le-leb _ _ h)

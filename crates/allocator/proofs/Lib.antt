@@ -7,3 +7,6 @@ pub mod PushLaws
 pub mod FreshLaws
 pub mod CountLaws
 pub mod FinishLaws
+pub mod CarryLaws
+pub mod SomeLaws
+pub mod NewShapeLaws

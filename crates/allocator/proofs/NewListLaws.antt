@@ -8,7 +8,7 @@ use mathlib.Core.List.{List, [], _∷_, _++_, map, append-assoc, append-nil}
 use lib.Dec.{leb}
 use lib.ListN.{length, getD, take, drop, length-append, drop-of-length-le}
 use lib.Seq.{sets, sets-eq, length-take-le, take-take, take-at, drop-at, drop-cons, take-append-le}
-use borrow.Author.Tests.{leb-true, leb-false}
+use borrow.Author.Tests.{leb-true, leb-false, le-leb, lt-leb}
 use Rattle.refusal.proofs.Cases.{cond-cases}
 use Rattle.page.specs.Pages.{Write}
 use Rattle.page.proofs.SetsLaws.{sets-kept}
@@ -35,7 +35,7 @@ module _ (l : FreeList) (t : Plan) (kept : t .kept ≤ length (l .pages)) (left 
       cond-cases (λ (ns : List ℕ). ns ++ t .fresh ≡ take (t .kept - 1) (l .pages) ++ cond (leb 1 (t .kept)) (t .top ∷ t .fresh) (t .fresh)) (leb 1 (t .kept)) _ _
       (λ e. rw (e, append-assoc)) (λ e. let none : t .kept - 1 ≡ 0 = omega (arith, leb-false 1 (t .kept) e) in rw (e, none))
 
-  length-new-numbers : length (newNumbers t) + (t .kept - 1) ≡ t .kept + length (t .fresh)
+  pub length-new-numbers : length (newNumbers t) + (t .kept - 1) ≡ t .kept + length (t .fresh)
   unfolding newNumbers
   length-new-numbers =
       cond-cases (λ (ns : List ℕ). length ns + (t .kept - 1) ≡ t .kept + length (t .fresh)) (leb 1 (t .kept)) (t .top ∷ t .fresh) (t .fresh)
@@ -62,3 +62,12 @@ module _ (pages entries : List ℕ) (P L : ℕ) (t : Plan) (pages-fit : P ≤ le
   pub table-entries : sets entries 0 (newList (tableList pages entries P L) t .entries) ≡ sets entries (t .left) (t .pushed)
   unfolding newList
   table-entries = rw (take-take (t .left) L entries left) (sets-kept entries (t .left) (t .pushed) (omega arith))
+
+-- the numbers of the pages written, with and without a page kept
+pub numbers-none : (t : Plan) → t .kept ≡ 0 → newNumbers t ≡ t .fresh
+unfolding newNumbers
+numbers-none t e = rw (lt-leb 1 (t .kept) (omega arith))
+
+pub numbers-some : (t : Plan) → (t .kept ≡ 0 → ⊥) → newNumbers t ≡ t .top ∷ t .fresh
+unfolding newNumbers
+numbers-some t e = rw (le-leb 1 (t .kept) (omega arith))

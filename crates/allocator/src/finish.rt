@@ -65,11 +65,31 @@ fn fill_numbers(
     ensures { λ _. ⌜ now (numbers .exit) ≡ sets (now (numbers .entry)) 0 (newNumbers (planIn c (now (pages .entry)) (now (entries .entry)) (save .pages) (save .entries) popped (now (freed .entry)) bump)) ⌝ }
 {
     if planned.pages == 0 {
-        plan(c, pages, entries, save.pages, save.entries, popped, freed, bump, numbers);
+        plan(
+            c,
+            pages,
+            entries,
+            save.pages,
+            save.entries,
+            popped,
+            freed,
+            bump,
+            numbers,
+        );
         return;
     }
     numbers[0] = planned.top;
-    plan(c, pages, entries, save.pages, save.entries, popped, freed, bump, &mut numbers[1..]);
+    plan(
+        c,
+        pages,
+        entries,
+        save.pages,
+        save.entries,
+        popped,
+        freed,
+        bump,
+        &mut numbers[1..],
+    );
 }
 
 // One less, and 0 of 0.
@@ -99,10 +119,28 @@ fn carry_out(
     ensures numbers { λ _. ⌜ now (numbers .exit) ≡ sets (now (numbers .entry)) 0 (map (λ (w : Write). w .number) (carriedIn size (now (pages .entry)) (now (entries .entry)) (save .pages) (save .entries) popped (now (freed .entry)) bump .written)) ⌝ }
 {
     let c = max_pns_per_page(size);
-    fill_numbers(c, pages, entries, save, popped, bump, freed, planned, numbers);
+    fill_numbers(
+        c,
+        pages,
+        entries,
+        save,
+        popped,
+        bump,
+        freed,
+        planned,
+        numbers,
+    );
     let mended = is_mended(c, save.pages, save.entries, popped);
     let low = save.pages - (planned.pushed - freed.len());
-    write_pushes(freed, mended, pages, save.pages, low, entries, planned.entries);
+    write_pushes(
+        freed,
+        mended,
+        pages,
+        save.pages,
+        low,
+        entries,
+        planned.entries,
+    );
     let first = one_less(planned.pages);
     let count = planned.pages + planned.fresh;
     copy_numbers(numbers, count - first, pages, first);

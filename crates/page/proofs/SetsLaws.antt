@@ -6,8 +6,8 @@ use mathlib.Core.List.{List, [], _∷_, _++_, append-nil, append-assoc}
 use native.Mathlib.Nat.{add-zero, zero-add, suc-add, add-suc}
 use native.Mathlib.Omega.{arith}
 use borrow.Rule.Slice.PartMut.{putMid}
-use lib.ListN.{length, getD, take, drop, set, length-set, take-append-drop, replicate, length-replicate, replicate-append-replicate, drop-of-length-le}
-use lib.Seq.{sets, sets-eq, drop-drop, set-set, set-comm, getD-set-same, getD-set-other, length-take-le}
+use lib.ListN.{length, getD, take, drop, set, length-set, length-drop, take-append-drop, replicate, length-replicate, replicate-append-replicate, drop-of-length-le}
+use lib.Seq.{sets, sets-eq, drop-drop, drop-append-le, set-set, set-comm, getD-set-same, getD-set-other, length-take-le}
 
 -- in two parts
 pub sets-append : (l : List ℕ) (i : ℕ) (xs ys : List ℕ) → sets l i (xs ++ ys) ≡ sets (sets l i xs) (i + length xs) ys
@@ -82,3 +82,13 @@ sets-kept l i xs h =
 -- a part that was lent and has come back, said of the whole
 pub part-written : (l : List ℕ) (i n : ℕ) (vs : List ℕ) → length vs ≡ n → i + n ≤ length l → putMid i n l vs ≡ sets l i vs
 part-written l i n vs e h = rw drop-drop (sym (sets-eq vs l i (omega arith) ∙ rw (e, append-assoc)))
+
+-- values written to the start of a part
+pub part-sets : (l : List ℕ) (i n : ℕ) (vs : List ℕ) → i + n ≤ length l → length vs ≤ n → putMid i n l (sets (take n (drop i l)) 0 vs) ≡ sets l i vs
+part-sets l i n vs h k =
+    let d = drop i l in
+    let long : length (take n d) ≡ n = length-take-le n d (omega (arith, length-drop i l)) in
+    let written : sets (take n d) 0 vs ≡ vs ++ drop (length vs) (take n d) = sets-eq vs (take n d) 0 (omega arith) ∙ rw (zero-add (length vs)) in
+    let rest : drop (length vs) (take n d) ++ drop n d ≡ drop (i + length vs) l =
+    sym (drop-append-le (length vs) (take n d) (drop n d) (omega arith)) ∙ rw (take-append-drop n d, drop-drop) in
+    rw (written, append-assoc vs (drop (length vs) (take n d)) (drop n d), rest) (sym (sets-eq vs l i (omega arith) ∙ rw append-assoc))

@@ -5,15 +5,15 @@ use native.Mathlib.Nat.{lt-div-mul-add, div-lt-iff-lt-mul, mul-div-le}
 use native.Mathlib.Omega.{arith}
 use mathlib.Core.Path.{_≡_, refl, sym, _∙_}
 use mathlib.Core.Logic.{_≢_, _⊎_, inl, inr}
-use mathlib.Core.List.{List, [], _∷_, _++_, reverse}
-use mathlib.Core.Bool.{Bool, true, false, _&&_, _||_, true≢false}
+use mathlib.Core.List.{List, [], _∷_, reverse}
+use mathlib.Core.Bool.{true, false, _&&_, true≢false}
 use lib.ListN.{length, take, drop, length-append, length-drop, length-reverse}
 use lib.Seq.{length-take-le}
 use lib.Dec.{leb, eqb}
 use borrow.Author.Tests.{leb-true, leb-false, le-leb, eqb-true, eqb-false, eq-eqb}
 use Rattle.refusal.proofs.Cases.{cond-cases, and-true, or-true}
 use Rattle.free_list.specs.Shape.{FreeList, isShape, isFragmented}
-use Rattle.preallocate.specs.Plan.{Plan, pagesFor, room, pageNumber, entry, pagesAfter, pushedAfter, noneLeft, renumbered, mended, emptied, firstPlan}
+use Rattle.preallocate.specs.Plan.{Plan, pagesFor, pageNumber, pagesAfter, pushedAfter, renumbered, mended, emptied, firstPlan}
 use Rattle.preallocate.specs.declared.turns.Plan.{Plan as Counts}
 use Rattle.preallocate.specs.Counts.{counts, listed, Planable}
 use Rattle.preallocate.specs.Steps.{roomOf, Sound, Small}
@@ -25,7 +25,6 @@ use Rattle.preallocate.proofs.StepsLaws.{times-less, times-positive}
 pub record Shaped (c P L : ℕ) : Type 0 where
   pub most : L ≤ c * P
   pub least : c * P ≤ L + c
-  pub none : L ≡ 0 → P ≡ 0
 
 pub shaped : (c P L : ℕ) → isShape c P L ≡ true → Shaped c P L
 unfolding isShape
@@ -40,11 +39,11 @@ shaped c P L e = go (or-true (eqb P 0 && eqb L 0) (leb 1 L && (leb (c * (P - 1))
         let t = and-true (eqb P 0) (eqb L 0) x in
         let p : P ≡ 0 = eqb-true P 0 (t .0) in
         let n : L ≡ 0 = eqb-true L 0 (t .1) in
-        record { most = omega arith; least = rw p (omega arith); none = λ _. p }
+        record { most = omega arith; least = rw p (omega arith) }
     go (inr y) =
         let t = and-true (leb 1 L) (leb (c * (P - 1)) L && leb L (c * P)) y in
         let u = and-true (leb (c * (P - 1)) L) (leb L (c * P)) (t .1) in
-        record { most = leb-true L (c * P) (u .1); least = page-more P (leb-true (c * (P - 1)) L (u .0)); none = λ z. absurd (omega (arith, leb-true 1 L (t .0))) }
+        record { most = leb-true L (c * P) (u .1); least = page-more P (leb-true (c * (P - 1)) L (u .0)) }
 
 -- a fragmented list has a page more than it needs
 fragmented-size : (c P L : ℕ) → isFragmented c P L ≡ true → (2 ≤ P) × (L ≡ c * (P - 1))

@@ -6,10 +6,10 @@ use native.Mathlib.Omega.{arith}
 use native.Mathlib.Numerals.{add-one}
 use mathlib.Core.Path.{_≡_, refl, sym, ap, _∙_}
 use mathlib.Core.List.{List, [], _∷_, _++_, append-nil, append-assoc}
-use mathlib.Core.Bool.{Bool, true, false, cond, _&&_}
+use mathlib.Core.Bool.{Bool, true, false, cond}
 use lib.ListN.{length, length-append}
 use lib.Seq.{sets}
-use lib.Dec.{leb, ltb, eqb}
+use lib.Dec.{leb, ltb}
 use borrow.Author.Tests.{ltb-true, ltb-false, le-ltb}
 use Rattle.page.proofs.SetsLaws.{sets-append}
 use Rattle.free_list.specs.Shape.{FreeList, isShape}
@@ -17,8 +17,8 @@ use Rattle.preallocate.specs.declared.turns.Plan.{Plan as Counts}
 use Rattle.preallocate.specs.Plan.{Plan, room, entry, firstPlan, swapTop, takeEntry, takeLast, takeBump, nextPlan, enoughRoom, planOf}
 use Rattle.preallocate.specs.Counts.{counts}
 use Rattle.preallocate.specs.Steps.{roomOf, wholeOf, lastOf, swapped, bumped, shortened, emptied, taken, named, stepped, stepNames, planned, newPages, work, Sound, Short, Planned}
-use Rattle.preallocate.proofs.StepsLaws.{times-positive, sound-stepped, falls-stepped, near-stepped, planned-enough, planned-more, bump-rises}
-use Rattle.preallocate.proofs.FirstLaws.{First, first}
+use Rattle.preallocate.proofs.StepsLaws.{sound-stepped, falls-stepped, near-stepped, planned-enough, planned-more, bump-rises}
+use Rattle.preallocate.proofs.FirstLaws.{first}
 
 -- ---- the turns of a plan are those in numbers
 

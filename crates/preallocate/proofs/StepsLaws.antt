@@ -1,16 +1,16 @@
 -- The turns in numbers: what each keeps, that the work falls, and how a turn's numbers join those of the turns after it.
 -- By cases of a turn; the products are `omega`'s. Assumes nothing.
 use Prim.Native.Nat.{ℕ, zero, suc, _+_, _-_, _*_, _^_, _≤_, _<_}
-use native.Mathlib.Nat.{mul-add, mul-one, mul-zero, le-mul-of-pos-right, mul-comm}
+use native.Mathlib.Nat.{mul-zero, le-mul-of-pos-right, mul-comm}
 use native.Mathlib.Omega.{arith}
 use mathlib.Core.Path.{_≡_, refl, sym, ap, subst, _∙_}
 use mathlib.Core.Logic.{_≢_}
 use mathlib.Core.List.{List, [], _∷_, _++_}
-use mathlib.Core.Bool.{Bool, true, false, cond, _&&_, false≢true}
+use mathlib.Core.Bool.{Bool, true, false, cond}
 use lib.ListN.{length, getD}
 use lib.Seq.{sets}
 use lib.Dec.{leb, ltb, eqb}
-use borrow.Author.Tests.{lt-ltb, le-ltb, le-leb, eq-eqb, ne-eqb, ltb-true, ltb-false, leb-true, leb-false, eqb-true, eqb-false}
+use borrow.Author.Tests.{lt-ltb, le-ltb, le-leb, ne-eqb, ltb-true, ltb-false, leb-true, leb-false, eqb-true, eqb-false}
 use Rattle.refusal.proofs.Cases.{and-true}
 use Rattle.page.proofs.SetsLaws.{sets-append}
 use Rattle.free_list.specs.Shape.{FreeList}
@@ -45,9 +45,6 @@ pub taken-cases : (c : ℕ) (l : FreeList) (p : Counts) (P : Counts → List ℕ
 unfolding taken named
 taken-cases c l p P b e o = go (leb 1 (p .entries)) (lastOf c p) refl refl
   where
-    x : ℕ
-    x = getD (l .entries) (p .entries - 1) 0
-
     go : (s y : Bool) → leb 1 (p .entries) ≡ s → lastOf c p ≡ y
         → P (cond s (cond y (emptied l p) (shortened p)) (bumped p)) (cond s (cond y (getD (l .entries) (p .entries - 1) 0 ∷ p .top ∷ []) (getD (l .entries) (p .entries - 1) 0 ∷ [])) (p .bump ∷ []))
     go true true h y = e (leb-true 1 (p .entries) h) (eqb-true _ _ y)

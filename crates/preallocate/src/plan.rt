@@ -32,6 +32,20 @@ fn mends(c: usize, p: usize, n: usize, popped: usize) -> bool
     popped == 0 && (2 <= p && n == c * (p - 1))
 }
 
+// A plan with these counts.
+fn counted(pages: usize, entries: usize, pushed: usize, fresh: usize, bump: usize, top: u32) -> Plan
+    ensures { λ r. ⌜ r ≡ record { pages = pages; entries = entries; pushed = pushed; fresh = fresh; bump = bump; top = top } ⌝ }
+{
+    Plan {
+        pages: pages,
+        entries: entries,
+        pushed: pushed,
+        fresh: fresh,
+        bump: bump,
+        top: top,
+    }
+}
+
 // The plan after the first number is popped, if one is left.
 fn first_plan(
     c: usize,
@@ -49,45 +63,19 @@ fn first_plan(
     let kept = pages_after(c, pages, entries, popped);
     let pushed = freed.len() + (pages.len() - kept);
     if entries.len() <= popped {
-        return Plan {
-            pages: 0,
-            entries: 0,
-            pushed: pushed,
-            fresh: 0,
-            bump: bump,
-            top: 0,
-        };
+        return counted(0, 0, pushed, 0, bump, 0);
     }
     let last = entries.len() - (popped + 1);
+    let number = entries[last];
     if mends(c, pages.len(), entries.len(), popped) {
-        return Plan {
-            pages: pages.len() - 1,
-            entries: last,
-            pushed: pushed + 2,
-            fresh: 0,
-            bump: bump,
-            top: entries[last],
-        };
+        return counted(pages.len() - 1, last, pushed + 2, 0, bump, number);
     }
     if last == c * (kept - 1) {
-        put(out, 0, entries[last]);
-        return Plan {
-            pages: kept - 1,
-            entries: last,
-            pushed: pushed + 1,
-            fresh: 1,
-            bump: bump,
-            top: under(pages, kept),
-        };
+        put(out, 0, number);
+        let top = under(pages, kept);
+        return counted(kept - 1, last, pushed + 1, 1, bump, top);
     }
-    Plan {
-        pages: kept,
-        entries: last,
-        pushed: pushed + 1,
-        fresh: 0,
-        bump: bump,
-        top: entries[last],
-    }
+    counted(kept, last, pushed + 1, 0, bump, number)
 }
 
 // The plan of a finish. The first `p` and `l` places of the two tables are the list, from the bottom page up;

@@ -42,9 +42,12 @@ sub-pushed c = omega (arith, c .pages-after .ensures, fewer (c .before .before .
 add-pushed : tie.Need-add-pushed
 add-pushed c = search needs
 
+counted-requires : tie.Need-counted-requires
+counted-requires c κs = search needs
+
 returns : tie.Need-returns
 unfolding firstPlan
-returns c = rw (le-leb _ _ (c .if1 .taken), c .before .pages-after .ensures, pushes (c .before .before .before .before .before .before)) (refl, refl)
+returns c = rw (le-leb _ _ (c .before .if1 .taken)) (rw (c .counted .ensures, c .before .before .pages-after .ensures, pushes (c .before .before .before .before .before .before .before)), refl)
 
 add-last : tie.Need-add-last
 add-last c = search needs
@@ -52,55 +55,56 @@ add-last c = search needs
 sub-last : tie.Need-sub-last
 sub-last c = search needs
 
+mul-number : tie.Need-mul-number
+mul-number c = search needs
+
+shared-slice-read-number : tie.Need-shared-slice-read-number
+shared-slice-read-number c = search needs
+
 mends-requires : tie.Need-mends-requires
-mends-requires c κs = omega (arith, c .before .before .before .before .before .before, shaped _ _ _ (c .before .before .before .before .before .before .pre .shape) .least)
+mends-requires c κs = omega (arith, c .before .before .before .before .before .before .before, shaped _ _ _ (c .before .before .before .before .before .before .before .pre .shape) .least)
 
-sub-t17 : tie.Need-sub-t17
-sub-t17 c = let a = c .before .before .before .before .before .before .before .before .args in omega (arith, mended-pages (a .c) (length (a .pages .now)) (length (a .entries .now)) (a .popped) (sym (c .before .mends .ensures) ∙ c .if2 .taken))
+sub-counted : tie.Need-sub-counted
+sub-counted c = let a = c .before .before .before .before .before .before .before .before .before .args in omega (arith, mended-pages (a .c) (length (a .pages .now)) (length (a .entries .now)) (a .popped) (sym (c .before .mends .ensures) ∙ c .if2 .taken))
 
-add-t18 : tie.Need-add-t18
-add-t18 c = search needs
+add-counted : tie.Need-add-counted
+add-counted c = search needs
 
-mul-t19 : tie.Need-mul-t19
-mul-t19 c = search needs
-
-shared-slice-read-t21 : tie.Need-shared-slice-read-t21
-shared-slice-read-t21 c = search needs
+counted-requires-2 : tie.Need-counted-requires-2
+counted-requires-2 c κs = search needs
 
 returns-2 : tie.Need-returns-2
 unfolding firstPlan
 returns-2 c =
-    let l = list (c .before .before .before .before .before .before .before .before .before) in
-    let a = c .before .before .before .before .before .before .before .before .before .args in
-    rw (lt-leb _ _ (c .before .before .before .if1 .left), sym (c .before .before .mends .ensures) ∙ c .before .if2 .taken, c .before .before .before .before .pages-after .ensures, add-one (a .popped), length-append (pushedAfter (a .c) l (a .popped) (a .freed .now)), pushes (c .before .before .before .before .before .before .before .before .before)) (refl, refl)
+    let a = c .before .before .before .before .before .before .before .before .before .before .args in
+    let before = pushedAfter (a .c) (list (c .before .before .before .before .before .before .before .before .before .before)) (a .popped) (a .freed .now) in
+    rw (lt-leb _ _ (c .before .before .before .before .if1 .left), sym (c .before .before .mends .ensures) ∙ c .before .if2 .taken, ← add-one (a .popped))
+    (rw (c .counted2 .ensures, c .before .before .before .before .before .pages-after .ensures, length-append before, pushes (c .before .before .before .before .before .before .before .before .before .before)), refl)
 
 sub-if3 : tie.Need-sub-if3
-sub-if3 c = some (c .before .before .before .before .before .before .before .before) (c .before .before .before .pages-after .ensures) (c .before .before .if1 .left) (sym (c .before .mends .ensures) ∙ c .if2 .left) .0
+sub-if3 c = some (c .before .before .before .before .before .before .before .before .before) (c .before .before .before .before .pages-after .ensures) (c .before .before .before .if1 .left) (sym (c .before .mends .ensures) ∙ c .if2 .left) .0
 
 mul-if3 : tie.Need-mul-if3
 mul-if3 c =
-    let t = some (c .before .before .before .before .before .before .before .before) (c .before .before .before .pages-after .ensures) (c .before .before .if1 .left) (sym (c .before .mends .ensures) ∙ c .if2 .left) in
-    omega (arith, c .before .before .before .before .before .before .before .before, times-less (c .before .before .before .before .before .before .before .before .args .c) (c .before .before .before .pages-after .result) (t .0))
-
-mul-put : tie.Need-mul-put
-mul-put c = search needs
-
-shared-slice-read-put : tie.Need-shared-slice-read-put
-shared-slice-read-put c = search needs
+    let t = some (c .before .before .before .before .before .before .before .before .before) (c .before .before .before .before .pages-after .ensures) (c .before .before .before .if1 .left) (sym (c .before .mends .ensures) ∙ c .if2 .left) in
+    omega (arith, c .before .before .before .before .before .before .before .before .before, times-less (c .before .before .before .before .before .before .before .before .before .args .c) (c .before .before .before .before .pages-after .result) (t .0))
 
 put-requires : tie.Need-put-requires
 put-requires c κs = search needs
 
-sub-t25 : tie.Need-sub-t25
-sub-t25 c = some (c .before .before .before .before .before .before .before .before .before .before .before .before .before .before) (c .before .before .before .before .before .before .before .before .before .pages-after .ensures) (c .before .before .before .before .before .before .before .before .if1 .left) (sym (c .before .before .before .before .before .before .before .mends .ensures) ∙ c .before .before .before .before .before .before .if2 .left) .0
-
-add-t28 : tie.Need-add-t28
-add-t28 c = search needs
-
 under-requires : tie.Need-under-requires
 under-requires c κs =
-    let t = some (c .before .before .before .before .before .before .before .before .before .before .before .before .before .before) (c .before .before .before .before .before .before .before .before .before .pages-after .ensures) (c .before .before .before .before .before .before .before .before .if1 .left) (sym (c .before .before .before .before .before .before .before .mends .ensures) ∙ c .before .before .before .before .before .before .if2 .left) in
+    let t = some (c .before .before .before .before .before .before .before .before .before .before .before .before .before .before) (c .before .before .before .before .before .before .before .before .before .pages-after .ensures) (c .before .before .before .before .before .before .before .before .if1 .left) (sym (c .before .before .before .before .before .before .mends .ensures) ∙ c .before .before .before .before .before .if2 .left) in
     (t .0, omega (arith, c .before .before .before .before .before .before .before .before .before .pages-after .ensures, fewer (c .before .before .before .before .before .before .before .before .before .before .before .before .before .before)))
+
+sub-counted-2 : tie.Need-sub-counted-2
+sub-counted-2 c = some (c .before .before .before .before .before .before .before .before .before .before .before .before .before .before .before) (c .before .before .before .before .before .before .before .before .before .before .pages-after .ensures) (c .before .before .before .before .before .before .before .before .before .if1 .left) (sym (c .before .before .before .before .before .before .before .mends .ensures) ∙ c .before .before .before .before .before .before .if2 .left) .0
+
+add-counted-2 : tie.Need-add-counted-2
+add-counted-2 c = search needs
+
+counted-requires-3 : tie.Need-counted-requires-3
+counted-requires-3 c κs = search needs
 
 same-length : tie.Need-same-length
 same-length c = search needs
@@ -108,27 +112,24 @@ same-length c = search needs
 returns-3 : tie.Need-returns-3
 unfolding firstPlan
 returns-3 c =
-    let l = list (c .before .before .before .before .before .before .before .before .before .before .before .before .before .before .before) in
-    let a = c .before .before .before .before .before .before .before .before .before .before .before .before .before .before .before .args in
-    rw (lt-leb _ _ (c .before .before .before .before .before .before .before .before .before .if1 .left), sym (c .before .before .before .before .before .before .before .before .mends .ensures) ∙ c .before .before .before .before .before .before .before .if2 .left, ← c .before .before .before .before .before .before .before .before .before .before .pages-after .ensures, ← add-one (a .popped), eq-eqb _ _ (c .before .before .before .before .before .before .if3 .taken), length-append (pushedAfter (a .c) l (a .popped) (a .freed .now)), pushes (c .before .before .before .before .before .before .before .before .before .before .before .before .before .before .before))
-    (cc (c .under .ensures, c .before .before .before .before .before .before .before .before .before .before .pages-after .ensures), cc (c .before .before .before .put .ensures))
+    let a = c .before .before .before .before .before .before .before .before .before .before .before .before .before .before .before .before .args in
+    let before = pushedAfter (a .c) (list (c .before .before .before .before .before .before .before .before .before .before .before .before .before .before .before .before)) (a .popped) (a .freed .now) in
+    rw (lt-leb _ _ (c .before .before .before .before .before .before .before .before .before .before .if1 .left), sym (c .before .before .before .before .before .before .before .before .mends .ensures) ∙ c .before .before .before .before .before .before .before .if2 .left, ← c .before .before .before .before .before .before .before .before .before .before .before .pages-after .ensures, ← add-one (a .popped), eq-eqb _ _ (c .before .before .before .before .before .before .if3 .taken))
+    (rw (c .counted3 .ensures, c .before .under .ensures, length-append before, pushes (c .before .before .before .before .before .before .before .before .before .before .before .before .before .before .before .before), c .before .before .before .before .before .before .before .before .before .before .before .pages-after .ensures), c .before .before .before .before .put .ensures)
 
-add-t12 : tie.Need-add-t12
-add-t12 c = search needs
+add-counted-3 : tie.Need-add-counted-3
+add-counted-3 c = search needs
 
-mul-t13 : tie.Need-mul-t13
-mul-t13 c = search needs
-
-shared-slice-read-t30 : tie.Need-shared-slice-read-t30
-shared-slice-read-t30 c = search needs
+counted-requires-4 : tie.Need-counted-requires-4
+counted-requires-4 c κs = search needs
 
 returns-4 : tie.Need-returns-4
 unfolding firstPlan
 returns-4 c =
-    let l = list (c .before .before .before .before .before .before .before .before .before .before) in
-    let a = c .before .before .before .before .before .before .before .before .before .before .args in
-    rw (lt-leb _ _ (c .before .before .before .before .if1 .left), sym (c .before .before .before .mends .ensures) ∙ c .before .before .if2 .left, ← c .before .before .before .before .before .pages-after .ensures, ← add-one (a .popped), ne-eqb _ _ (c .before .if3 .left), length-append (pushedAfter (a .c) l (a .popped) (a .freed .now)), pushes (c .before .before .before .before .before .before .before .before .before .before))
-    (cc (c .before .before .before .before .before .pages-after .ensures), refl)
+    let a = c .before .before .before .before .before .before .before .before .before .before .before .args in
+    let before = pushedAfter (a .c) (list (c .before .before .before .before .before .before .before .before .before .before .before)) (a .popped) (a .freed .now) in
+    rw (lt-leb _ _ (c .before .before .before .before .before .if1 .left), sym (c .before .before .before .mends .ensures) ∙ c .before .before .if2 .left, ← c .before .before .before .before .before .before .pages-after .ensures, ← add-one (a .popped), ne-eqb _ _ (c .before .if3 .left))
+    (rw (c .counted4 .ensures, length-append before, pushes (c .before .before .before .before .before .before .before .before .before .before .before), c .before .before .before .before .before .before .pages-after .ensures), refl)
 
 pub first-plan-spec : {M : Type 1} → statement M
 first-plan-spec =
@@ -137,26 +138,26 @@ first-plan-spec =
     pages-after-requires
     sub-pushed
     add-pushed
+    counted-requires
     returns
     add-last
     sub-last
+    mul-number
+    shared-slice-read-number
     mends-requires
-    sub-t17
-    add-t18
-    mul-t19
-    shared-slice-read-t21
+    sub-counted
+    add-counted
+    counted-requires-2
     returns-2
     sub-if3
     mul-if3
-    mul-put
-    shared-slice-read-put
     put-requires
-    sub-t25
-    add-t28
     under-requires
+    sub-counted-2
+    add-counted-2
+    counted-requires-3
     same-length
     returns-3
-    add-t12
-    mul-t13
-    shared-slice-read-t30
+    add-counted-3
+    counted-requires-4
     returns-4)

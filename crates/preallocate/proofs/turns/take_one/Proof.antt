@@ -2,7 +2,7 @@
 -- Assumes nothing.
 use native.Mathlib.Omega.{arith}
 use native.Mathlib.Numerals.{add-one}
-use mathlib.Core.Path.{refl}
+use mathlib.Core.Path.{refl, _∙_}
 use borrow.Author.Tests.{le-leb, lt-leb, eq-eqb, ne-eqb}
 use Rattle.preallocate.specs.Steps.{taken, named}
 use Rattle.preallocate.proofs.StepsLaws.{times-less, pages-positive, fresh-small}
@@ -57,7 +57,7 @@ returns-2 : tie.Need-returns-2
 unfolding taken named
 returns-2 c =
     rw (le-leb _ _ (c .before .before .before .before .before .before .before .before .before .before .before .before .before .before .before .before .if1 .left), eq-eqb _ _ (c .before .before .before .before .before .before .before .before .if2 .taken))
-    (cc (c .under .ensures), λ b. cc (c .before .before .before .before .before .put2 .ensures, c .before .before .before .before .before .before .before .before .before .before .before .before .put .ensures, add-one (c .before .before .before .before .before .before .before .before .before .before .before .before .before .before .before .before .before .before .before .before .before .args .p .fresh)))
+    (rw (c .under .ensures), λ b. c .before .before .before .before .before .put2 .ensures ∙ rw (c .before .before .before .before .before .before .before .before .before .before .before .before .put .ensures, add-one (c .before .before .before .before .before .before .before .before .before .before .before .before .before .before .before .before .before .before .before .before .before .args .p .fresh)))
 
 add-t13 : tie.Need-add-t13
 add-t13 c = let s = c .before .before .before .before .before .before .before .before .before .before .before .before .before .before .pre in omega (arith, fresh-small (s .0) (s .1) (s .2))

@@ -1,0 +1,71 @@
+-- The list that a finish makes has the shape; and when it is fragmented.
+use Prim.Native.Nat.{ℕ, zero, suc, _+_, _*_, _-_, _≤_}
+use native.Mathlib.Nat.{mul-suc, mul-add, mul-zero, zero-sub}
+use native.Mathlib.Omega.{arith}
+use mathlib.Core.Path.{_≡_, refl}
+use mathlib.Core.Bool.{Bool, true, false, _&&_, _||_}
+use mathlib.Core.List.{List}
+use lib.Dec.{leb, eqb}
+use lib.ListN.{length}
+use borrow.Author.Tests.{le-leb, eq-eqb}
+use Rattle.free_list.specs.Shape.{FreeList, isShape, isFragmented}
+use Rattle.free_list.proofs.BelowLaws.{fragmented-is}
+use Rattle.preallocate.specs.Plan.{Plan, room, planOf}
+use Rattle.preallocate.proofs.PlanLaws.{plan-enough, plan-tight, plan-kept, plan-left, plan-fits}
+use Rattle.allocator.specs.Finish.{newList}
+use Rattle.allocator.proofs.NewListLaws.{length-new-pages, length-new-entries}
+use Rattle.allocator.proofs.SomeLaws.{plan-some}
+
+-- Some entries, on as few pages as hold them or one more, are the shape.
+pub bounds-shape : (c P L : ℕ) → 1 ≤ L → c * P ≤ L + c → L ≤ c * P → isShape c P L ≡ true
+unfolding isShape
+bounds-shape c P L some few most = rw (le-leb 1 L some, le-leb (c * (P - 1)) L (page-less P few), le-leb L (c * P) most) (last (eqb P 0 && eqb L 0))
+  where
+    page-less : (n : ℕ) → c * n ≤ L + c → c * (n - 1) ≤ L
+    page-less zero h = rw (zero-sub 1, mul-zero) (omega arith)
+    page-less (suc n) h =
+        let e : suc n - 1 ≡ n = omega arith in
+        rw e (omega (arith, mul-suc c n))
+
+    last : (b : Bool) → b || true ≡ true
+    last true = refl
+    last false = refl
+
+-- A list is fragmented exactly where it has two pages or more, and just the entries of one page less.
+pub fragmented-exactly : (c P L : ℕ)
+    → (isFragmented c P L ≡ true → (2 ≤ P) × (L ≡ c * (P - 1)))
+    × ((2 ≤ P) × (L ≡ c * (P - 1)) → isFragmented c P L ≡ true)
+unfolding isFragmented
+fragmented-exactly c P L = (fragmented-is c P L, λ h. rw (le-leb 2 P (h .0), eq-eqb L (c * (P - 1)) (h .1)))
+
+module _ (c : ℕ) (l : FreeList) (k : ℕ) (freed : List ℕ) (bump : ℕ) (two : 2 ≤ c)
+    (shape : isShape c (length (l .pages)) (length (l .entries)) ≡ true) where
+  -- the pages and entries of the new list, in the plan's numbers
+  pub length-pages-planned : length (newList l (planOf c l k freed bump) .pages) ≡ planOf c l k freed bump .kept + length (planOf c l k freed bump .fresh)
+  length-pages-planned = length-new-pages l (planOf c l k freed bump) (plan-kept c l two shape k freed bump) (plan-left c l two shape k freed bump)
+
+  pub length-entries-planned : length (newList l (planOf c l k freed bump) .entries) ≡ planOf c l k freed bump .left + length (planOf c l k freed bump .pushed)
+  length-entries-planned = length-new-entries l (planOf c l k freed bump) (plan-kept c l two shape k freed bump) (plan-left c l two shape k freed bump)
+
+  -- the entries fit on the pages, and on no fewer than one page less
+  planned-fits : planOf c l k freed bump .left + length (planOf c l k freed bump .pushed) ≤ c * (planOf c l k freed bump .kept + length (planOf c l k freed bump .fresh))
+  unfolding room
+  planned-fits =
+      omega (
+        arith,
+        plan-enough c l two shape k freed bump,
+        plan-fits c l two shape k freed bump,
+        mul-add c (planOf c l k freed bump .kept) (length (planOf c l k freed bump .fresh)),
+      )
+
+  planned-few : c * (planOf c l k freed bump .kept + length (planOf c l k freed bump .fresh)) ≤ planOf c l k freed bump .left + length (planOf c l k freed bump .pushed) + c
+  unfolding room
+  planned-few = omega (arith, plan-tight c l two shape k freed bump)
+
+  -- Where something was popped or freed, the new list has the shape.
+  pub new-shape : k ≤ length (l .entries) → eqb k 0 && eqb (length freed) 0 ≡ false
+      → isShape c (length (newList l (planOf c l k freed bump) .pages)) (length (newList l (planOf c l k freed bump) .entries)) ≡ true
+  new-shape kL changed =
+      rw (length-pages-planned, length-entries-planned)
+      (bounds-shape c (planOf c l k freed bump .kept + length (planOf c l k freed bump .fresh)) (planOf c l k freed bump .left + length (planOf c l k freed bump .pushed))
+      (omega (arith, plan-some c l k freed bump (omega arith) shape kL changed)) planned-few planned-fits)

@@ -1,0 +1,18 @@
+-- `is_mended` meets its contract.
+-- Assumes nothing.
+use borrow.Author.Tests.{eq-eqb, ne-eqb}
+use borrow.Author.Needs.{needs}
+use Rattle.allocator.proofs.finish.is_mended.Statement.{statement}
+use Rattle.allocator.proofs.finish.is_mended.Tie as tie
+
+is-fragmented-requires : tie.Need-is-fragmented-requires
+is-fragmented-requires c κs = search needs
+
+returns : tie.Need-returns
+returns c = rw (eq-eqb _ _ (c .before .if1 .taken)) (c .is-fragmented .ensures)
+
+returns-2 : tie.Need-returns-2
+returns-2 c = rw (ne-eqb _ _ (c .if1 .left))
+
+pub is-mended-spec : {M : Type 1} → statement M
+is-mended-spec = tie.close (tie.spec is-fragmented-requires returns returns-2)
