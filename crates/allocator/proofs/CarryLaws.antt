@@ -19,7 +19,8 @@ use Rattle.preallocate.specs.Counts.{counts}
 use Rattle.preallocate.specs.declared.turns.Plan.{Plan as Counts}
 use Rattle.preallocate.proofs.PlanLaws.{plan-enough, plan-tight, plan-kept, plan-left, plan-fits}
 use Rattle.allocator.specs.Finish.{newList, encodedPages, bytesOfPages, carriedOut}
-use Rattle.allocator.specs.Steps.{pushList, newNumbers, tableList, planIn, carriedIn, Listed, Writable}
+use Rattle.allocator.specs.Steps.{pushList, newNumbers, tableList, planIn, carriedIn, Listed, Planned, Writable}
+use Rattle.allocator.proofs.EncodeLaws.{length-encodedPages}
 use Rattle.allocator.proofs.PushLaws.{Pushes, plan-pushes, plan-longer, plan-few}
 use Rattle.allocator.proofs.NewListLaws.{take-sets, numbers-of-pages, length-new-numbers, length-new-pages, length-new-entries, new-written, table-pages, table-entries}
 
@@ -45,8 +46,8 @@ pub record Bounds (c P L freed : ℕ) (planned : Counts) : Type 0 where
   pub enough : planned .entries + planned .pushed ≤ c * (planned .pages + planned .fresh)
   pub tight : c * (planned .pages + planned .fresh) ≤ planned .entries + planned .pushed + c
 
-module _ {s : ℕ} {pages entries : List ℕ} {P L popped bump : ℕ} {freed : List ℕ} {planned : Counts} {bytes numbers : ℕ}
-    (w : Writable s pages entries P L popped bump freed planned bytes numbers) where
+module _ {s : ℕ} {pages entries : List ℕ} {P L popped bump : ℕ} {freed : List ℕ} {planned : Counts}
+    (w : Planned s pages entries P L popped bump freed planned) where
   many : length (take P pages) ≡ P
   many = length-take-le P pages (w .planable .pages-fit)
 
@@ -140,12 +141,23 @@ module _ {s : ℕ} {pages entries : List ℕ} {P L popped bump : ℕ} {freed : L
       e ∙ rw (m, ← pushes .list, left-is)
       (sym (table-entries pages entries P L (planIn (capacity s) pages entries P L popped freed bump) (w .planable .pages-fit) (w .planable .entries-fit) (omega (arith, kept-is, bounds .kept)) (omega (arith, left-is, bounds .left))))
 
-  -- the page table: the numbers, from the top kept page up
   numbers-count : length (newNumbers (planIn (capacity s) pages entries P L popped freed bump)) ≡ planned .pages + planned .fresh - (planned .pages - 1)
   numbers-count =
       let t = planIn (capacity s) pages entries P L popped freed bump in
       omega (arith, length-new-numbers (tableList pages entries P L) t kept-fits left-fits, kept-is, fresh-is)
 
+  -- the pages written
+  written-is : encodedPages s (carriedIn s pages entries P L popped freed bump .list) (planned .pages - 1) (planned .pages + planned .fresh - (planned .pages - 1))
+      ≡ carriedIn s pages entries P L popped freed bump .written
+  unfolding carriedOut
+  written-is = rw (← pages-count, kept-is)
+
+  pub written-count : length (carriedIn s pages entries P L popped freed bump .written) ≡ planned .pages + planned .fresh - (planned .pages - 1)
+  written-count = ap length (sym written-is) ∙ length-encodedPages s (carriedIn s pages entries P L popped freed bump .list) (planned .pages - 1) (planned .pages + planned .fresh - (planned .pages - 1))
+
+module _ {s : ℕ} {pages entries : List ℕ} {P L popped bump : ℕ} {freed : List ℕ} {planned : Counts} {bytes numbers : ℕ}
+    (w : Writable s pages entries P L popped bump freed planned bytes numbers) where
+  -- the page table: the numbers, from the top kept page up
   pub carried-pages : (first : ℕ) (a b r : List ℕ) → first ≡ planned .pages - 1 → numbers ≡ length a
       → b ≡ sets a 0 (newNumbers (planIn (capacity s) pages entries P L popped freed bump))
       → r ≡ sets pages first (take (planned .pages + planned .fresh - first) b)
@@ -154,15 +166,9 @@ module _ {s : ℕ} {pages entries : List ℕ} {P L popped bump : ℕ} {freed : L
   carried-pages first a b r f long e g =
       let t = planIn (capacity s) pages entries P L popped freed bump in
       let whole : take (planned .pages + planned .fresh - first) b ≡ newNumbers t =
-      rw (e, f, ← numbers-count) (take-sets a (newNumbers t) (omega (arith, numbers-count, w .numbers-fit))) in
-      g ∙ rw (whole, f, kept-is)
-      (sym (table-pages pages entries P L t (w .planable .pages-fit) (w .planable .entries-fit) (omega (arith, kept-is, bounds .kept)) (omega (arith, left-is, bounds .left))))
-
-  -- the pages written
-  written-is : encodedPages s (carriedIn s pages entries P L popped freed bump .list) (planned .pages - 1) (planned .pages + planned .fresh - (planned .pages - 1))
-      ≡ carriedIn s pages entries P L popped freed bump .written
-  unfolding carriedOut
-  written-is = rw (← pages-count, kept-is)
+      rw (e, f, ← numbers-count (w .plan)) (take-sets a (newNumbers t) (omega (arith, numbers-count (w .plan), w .numbers-fit))) in
+      g ∙ rw (whole, f, kept-is (w .plan))
+      (sym (table-pages pages entries P L t (w .plan .planable .pages-fit) (w .plan .planable .entries-fit) (omega (arith, kept-is (w .plan), bounds (w .plan) .kept)) (omega (arith, left-is (w .plan), bounds (w .plan) .left))))
 
   -- the tables then hold the new list
   pub tables-list : (a b : List ℕ) → a ≡ sets pages 0 (carriedIn s pages entries P L popped freed bump .list .pages)
@@ -170,8 +176,8 @@ module _ {s : ℕ} {pages entries : List ℕ} {P L popped bump : ℕ} {freed : L
       → tableList a b (planned .pages + planned .fresh) (planned .entries + planned .pushed) ≡ carriedIn s pages entries P L popped freed bump .list
   tables-list a b e f =
       let m = carriedIn s pages entries P L popped freed bump .list in
-      let p : take (planned .pages + planned .fresh) a ≡ m .pages = rw (e, ← pages-count) (take-sets pages (m .pages) (omega (arith, pages-count, w .pages-fit))) in
-      let q : take (planned .entries + planned .pushed) b ≡ m .entries = rw (f, ← entries-count) (take-sets entries (m .entries) (omega (arith, entries-count, w .entries-fit))) in
+      let p : take (planned .pages + planned .fresh) a ≡ m .pages = rw (e, ← pages-count (w .plan)) (take-sets pages (m .pages) (omega (arith, pages-count (w .plan), w .pages-fit))) in
+      let q : take (planned .entries + planned .pushed) b ≡ m .entries = rw (f, ← entries-count (w .plan)) (take-sets entries (m .entries) (omega (arith, entries-count (w .plan), w .entries-fit))) in
       λ i. record { pages = p i; entries = q i }
 
   -- it has the shape
@@ -179,10 +185,10 @@ module _ {s : ℕ} {pages entries : List ℕ} {P L popped bump : ℕ} {freed : L
       → Listed s a b (planned .pages + planned .fresh) (planned .entries + planned .pushed)
   tables-listed a b e f =
       record {
-        size = w .size;
+        size = w .plan .size;
         some = omega (arith, w .some);
-        most = bounds .enough;
-        least = less (planned .pages + planned .fresh) (bounds .tight);
+        most = bounds (w .plan) .enough;
+        least = less (planned .pages + planned .fresh) (bounds (w .plan) .tight);
         pages-fit = omega (arith, w .pages-fit);
         entries-fit = omega (arith, w .entries-fit);
       }
@@ -202,5 +208,5 @@ module _ {s : ℕ} {pages entries : List ℕ} {P L popped bump : ℕ} {freed : L
   carried-buffer first m a b r f e g h =
       let same : encodedPages s (tableList a b (planned .pages + planned .fresh) (planned .entries + planned .pushed)) first (planned .pages + planned .fresh - first)
       ≡ carriedIn s pages entries P L popped freed bump .written =
-      rw (tables-list a b e g, f) written-is in
+      rw (tables-list a b e g, f) (written-is (w .plan)) in
       h ∙ ap (λ (ws : List Write). sets m 0 (bytesOfPages ws)) same

@@ -86,11 +86,11 @@ module _ (s : ℕ) (v : Save) (freed : List ℕ) (entries-fit : v .L ≤ length 
   unfolding finished finishList
   finished-changed e = rw (pops-is, e)
 
-pub changed-popped : (popped freed : ℕ) → (popped ≡ 0 → ⊥) → eqb popped 0 && eqb freed 0 ≡ false
-changed-popped popped freed h = rw (ne-eqb popped 0 h)
+pub changed-popped : (popped freed : ℕ) → 0 < popped → eqb popped 0 && eqb freed 0 ≡ false
+changed-popped popped freed h = rw (ne-eqb popped 0 (λ (e : popped ≡ 0). omega arith))
 
-pub changed-freed : (popped freed : ℕ) → (freed ≡ 0 → ⊥) → eqb popped 0 && eqb freed 0 ≡ false
-changed-freed popped freed h = rw (ne-eqb freed 0 h) (none (eqb popped 0))
+pub changed-freed : (popped freed : ℕ) → 0 < freed → eqb popped 0 && eqb freed 0 ≡ false
+changed-freed popped freed h = rw (ne-eqb freed 0 (λ (e : freed ≡ 0). omega arith)) (none (eqb popped 0))
   where
     none : (b : Bool) → b && false ≡ false
     none true = refl

@@ -10,3 +10,7 @@ pub mod FinishLaws
 pub mod CarryLaws
 pub mod SomeLaws
 pub mod NewShapeLaws
+pub mod KeptPageLaws
+pub mod ReadBackLaws
+pub mod ChangedLaws
+pub mod SameLaws

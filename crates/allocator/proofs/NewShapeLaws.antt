@@ -5,12 +5,12 @@ use native.Mathlib.Omega.{arith}
 use mathlib.Core.Path.{_≡_, refl}
 use mathlib.Core.Bool.{Bool, true, false, _&&_, _||_}
 use mathlib.Core.List.{List}
-use lib.Dec.{leb, eqb}
+use lib.Dec.{eqb}
 use lib.ListN.{length}
 use borrow.Author.Tests.{le-leb, eq-eqb}
 use Rattle.free_list.specs.Shape.{FreeList, isShape, isFragmented}
 use Rattle.free_list.proofs.BelowLaws.{fragmented-is}
-use Rattle.preallocate.specs.Plan.{Plan, room, planOf}
+use Rattle.preallocate.specs.Plan.{room, planOf}
 use Rattle.preallocate.proofs.PlanLaws.{plan-enough, plan-tight, plan-kept, plan-left, plan-fits}
 use Rattle.allocator.specs.Finish.{newList}
 use Rattle.allocator.proofs.NewListLaws.{length-new-pages, length-new-entries}
@@ -48,7 +48,7 @@ module _ (c : ℕ) (l : FreeList) (k : ℕ) (freed : List ℕ) (bump : ℕ) (two
   length-entries-planned = length-new-entries l (planOf c l k freed bump) (plan-kept c l two shape k freed bump) (plan-left c l two shape k freed bump)
 
   -- the entries fit on the pages, and on no fewer than one page less
-  planned-fits : planOf c l k freed bump .left + length (planOf c l k freed bump .pushed) ≤ c * (planOf c l k freed bump .kept + length (planOf c l k freed bump .fresh))
+  pub planned-fits : planOf c l k freed bump .left + length (planOf c l k freed bump .pushed) ≤ c * (planOf c l k freed bump .kept + length (planOf c l k freed bump .fresh))
   unfolding room
   planned-fits =
       omega (
@@ -58,7 +58,7 @@ module _ (c : ℕ) (l : FreeList) (k : ℕ) (freed : List ℕ) (bump : ℕ) (two
         mul-add c (planOf c l k freed bump .kept) (length (planOf c l k freed bump .fresh)),
       )
 
-  planned-few : c * (planOf c l k freed bump .kept + length (planOf c l k freed bump .fresh)) ≤ planOf c l k freed bump .left + length (planOf c l k freed bump .pushed) + c
+  pub planned-few : c * (planOf c l k freed bump .kept + length (planOf c l k freed bump .fresh)) ≤ planOf c l k freed bump .left + length (planOf c l k freed bump .pushed) + c
   unfolding room
   planned-few = omega (arith, plan-tight c l two shape k freed bump)
 

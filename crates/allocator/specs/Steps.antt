@@ -1,7 +1,7 @@
 -- The finish's work in parts. Only private functions cite these.
-use Prim.Native.Nat.{ℕ, _+_, _*_, _-_, _≤_}
+use Prim.Native.Nat.{ℕ, _+_, _*_, _-_, min, _≤_}
 use mathlib.Core.Path.{_≡_}
-use mathlib.Core.Bool.{Bool, true, false, cond}
+use mathlib.Core.Bool.{Bool, true, false, _&&_, cond}
 use mathlib.Core.List.{List, [], _∷_, _++_, reverse}
 use lib.Dec.{leb, eqb}
 use lib.ListN.{length, getD, take, drop}
@@ -11,6 +11,7 @@ use Rattle.page.specs.Growth.{maxBump}
 use Rattle.preallocate.specs.Plan.{Plan, planOf}
 use Rattle.preallocate.specs.Counts.{counts, Planable}
 use Rattle.preallocate.specs.declared.turns.Plan.{Plan as Counts}
+use Rattle.allocator.specs.OpenSave.{Save, stateFits, bumped}
 use Rattle.allocator.specs.Finish.{Finished, carriedOut}
 
 -- the first two change places, where asked
@@ -53,14 +54,27 @@ planIn c pages entries P L popped freed bump = planOf c (tableList pages entries
 abbrev pub carriedIn : ℕ → List ℕ → List ℕ → ℕ → ℕ → ℕ → List ℕ → ℕ → Finished
 carriedIn s pages entries P L popped freed bump = carriedOut s (tableList pages entries P L) (planIn (capacity s) pages entries P L popped freed bump)
 
--- a plan that has room in the tables, the buffer and the number list
-pub record Writable (s : ℕ) (pages entries : List ℕ) (P L popped bump : ℕ) (freed : List ℕ) (planned : Counts) (bytes numbers : ℕ) : Type 0 where
+-- these numbers are those of the plan
+pub record Planned (s : ℕ) (pages entries : List ℕ) (P L popped bump : ℕ) (freed : List ℕ) (planned : Counts) : Type 0 where
   pub size : PageSize s
   pub planable : Planable (capacity s) pages entries P L popped bump
   pub is : planned ≡ counts (planIn (capacity s) pages entries P L popped freed bump)
+
+-- a plan that has room in the tables, the buffer and the number list
+pub record Writable (s : ℕ) (pages entries : List ℕ) (P L popped bump : ℕ) (freed : List ℕ) (planned : Counts) (bytes numbers : ℕ) : Type 0 where
+  pub plan : Planned s pages entries P L popped bump freed planned
   pub limit : planned .bump ≤ maxBump
   pub some : 1 ≤ planned .pushed
   pub pages-fit : planned .pages + planned .fresh ≤ length pages
   pub entries-fit : planned .entries + planned .pushed ≤ length entries
   pub bytes-fit : s * (planned .pages + planned .fresh - (planned .pages - 1)) ≤ bytes
   pub numbers-fit : planned .pages + planned .fresh - (planned .pages - 1) ≤ numbers
+
+-- a save that stands, with something popped or freed
+pub record Changed (s : ℕ) (v : Save) (freed : List ℕ) (popped bump : ℕ) : Type 0 where
+  pub size : PageSize s
+  pub state : stateFits s v ≡ true
+  pub pops : popped ≡ min (v .handed) (v .L)
+  pub bumps : bump ≡ bumped v
+  pub limit : bump ≤ maxBump
+  pub changed : eqb popped 0 && eqb (length freed) 0 ≡ false

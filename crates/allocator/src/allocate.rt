@@ -79,8 +79,16 @@ fn recorded_for(length: u32, page: u32) -> u32
     if page < length {
         return length;
     }
+    grown_for(page)
+}
+
+// The length that a store is grown to for this page or bump.
+pub(crate) fn grown_for(page: u32) -> u32
+    requires { ⌜ page ≤ maxBump ⌝ }
+    ensures { λ r. ⌜ r ≡ grown page ⌝ }
+{
     match grow(PageNumber(page)) {
         Grown::To(grown) => grown.0,
-        Grown::Refused(_) => length,
+        Grown::Refused(_) => page,
     }
 }

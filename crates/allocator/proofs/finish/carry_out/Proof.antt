@@ -21,25 +21,25 @@ max-pns-per-page-requires : tie.Need-max-pns-per-page-requires
 max-pns-per-page-requires c κs = search needs
 
 fill-numbers-requires : tie.Need-fill-numbers-requires
-fill-numbers-requires c κs = let w = c .before .before .before .before .before .before .before .before .before .pre in rw (c .before .before .before .max-pns-per-page .ensures) (w .planable, w .is, w .limit, w .numbers-fit)
+fill-numbers-requires c κs = let w = c .before .before .before .before .before .before .before .before .before .pre in rw (c .before .before .before .max-pns-per-page .ensures) (w .plan .planable, w .plan .is, w .limit, w .numbers-fit)
 
 is-mended-requires : tie.Need-is-mended-requires
 is-mended-requires c κs =
     let w = c .before .before .before .before .before .before .before .before .before .before .before .before .pre in
-    let b = shape-bounds _ _ _ (w .planable .shape) in
-    rw (c .before .before .before .before .before .before .max-pns-per-page .ensures) (w .planable .capacity, b .0, b .1)
+    let b = shape-bounds _ _ _ (w .plan .planable .shape) in
+    rw (c .before .before .before .before .before .before .max-pns-per-page .ensures) (w .plan .planable .capacity, b .0, b .1)
 
 sub-low : tie.Need-sub-low
-sub-low c = bounds (c .before .before .before .before .before .before .before .before .before .before .before .before .before .before .pre) .longer
+sub-low c = bounds (c .before .before .before .before .before .before .before .before .before .before .before .before .before .before .pre .plan) .longer
 
 sub-low-2 : tie.Need-sub-low-2
-sub-low-2 c = bounds (c .before .before .before .before .before .before .before .before .before .before .before .before .before .before .before .pre) .few
+sub-low-2 c = bounds (c .before .before .before .before .before .before .before .before .before .before .before .before .before .before .before .pre .plan) .few
 
 write-pushes-requires : tie.Need-write-pushes-requires
 write-pushes-requires c κs =
     let w = c .before .before .before .before .before .before .before .before .before .before .before .before .before .before .before .before .before .pre in
-    let b = bounds w in
-    (omega arith, w .planable .pages-fit, omega (arith, b .longer, b .few, w .entries-fit), λ m. mended-two w (sym (mend (c .before .before .before .before .before .before .before .before .before .before .before .before .before .before .before .before .before .args .size) (c .before .before .before .before .before .before .before .before .before .before .before .before .before .before .before .before .before .args .save .pages) (c .before .before .before .before .before .before .before .before .before .before .before .before .before .before .before .before .before .args .save .entries) (c .before .before .before .before .before .before .before .before .before .before .before .before .before .before .before .before .before .args .popped) (c .before .before .before .before .before .before .before .before .before .before .before .max-pns-per-page .ensures) (c .before .before .before .before .is-mended .ensures)) ∙ m))
+    let b = bounds (w .plan) in
+    (omega arith, w .plan .planable .pages-fit, omega (arith, b .longer, b .few, w .entries-fit), λ m. mended-two (w .plan) (sym (mend (c .before .before .before .before .before .before .before .before .before .before .before .before .before .before .before .before .before .args .size) (c .before .before .before .before .before .before .before .before .before .before .before .before .before .before .before .before .before .args .save .pages) (c .before .before .before .before .before .before .before .before .before .before .before .before .before .before .before .before .before .args .save .entries) (c .before .before .before .before .before .before .before .before .before .before .before .before .before .before .before .before .before .args .popped) (c .before .before .before .before .before .before .before .before .before .before .before .max-pns-per-page .ensures) (c .before .before .before .before .is-mended .ensures)) ∙ m))
 
 one-less-requires : tie.Need-one-less-requires
 one-less-requires c κs = search needs
@@ -81,8 +81,8 @@ returns c =
     let first = c .before .before .before .before .before .before .before .before .before .before .before .before .before .one-less .ensures in
     let numbers = rw (c .before .before .before .before .before .before .before .before .before .before .before .before .before .before .before .before .before .before .before .before .before .before .before .before .before .before .before .before .max-pns-per-page .ensures) at (c .before .before .before .before .before .before .before .before .before .before .before .before .before .before .before .before .before .before .before .before .before .before .before .before .fill-numbers .ensures) in
     let pages = carried-pages w _ _ _ _ first refl numbers (c .before .before .before .before .before .before .before .before .before .copy-numbers .ensures) in
-    let entries = carried-entries w _ (mend (c .before .before .before .before .before .before .before .before .before .before .before .before .before .before .before .before .before .before .before .before .before .before .before .before .before .before .before .before .before .before .before .before .before .before .args .size) (c .before .before .before .before .before .before .before .before .before .before .before .before .before .before .before .before .before .before .before .before .before .before .before .before .before .before .before .before .before .before .before .before .before .before .args .save .pages) (c .before .before .before .before .before .before .before .before .before .before .before .before .before .before .before .before .before .before .before .before .before .before .before .before .before .before .before .before .before .before .before .before .before .before .args .save .entries) (c .before .before .before .before .before .before .before .before .before .before .before .before .before .before .before .before .before .before .before .before .before .before .before .before .before .before .before .before .before .before .before .before .before .before .args .popped) (c .before .before .before .before .before .before .before .before .before .before .before .before .before .before .before .before .before .before .before .before .before .before .before .before .before .before .before .before .max-pns-per-page .ensures) (c .before .before .before .before .before .before .before .before .before .before .before .before .before .before .before .before .before .before .before .before .before .is-mended .ensures)) (c .before .before .before .before .before .before .before .before .before .before .before .before .before .before .before .before .write-pushes .ensures) in
-    (pages, (entries, (carried-buffer w _ _ _ _ _ first pages entries (c .before .before .encode-pages .ensures), carried-numbers w _ _ numbers)))
+    let entries = carried-entries (w .plan) _ (mend (c .before .before .before .before .before .before .before .before .before .before .before .before .before .before .before .before .before .before .before .before .before .before .before .before .before .before .before .before .before .before .before .before .before .before .args .size) (c .before .before .before .before .before .before .before .before .before .before .before .before .before .before .before .before .before .before .before .before .before .before .before .before .before .before .before .before .before .before .before .before .before .before .args .save .pages) (c .before .before .before .before .before .before .before .before .before .before .before .before .before .before .before .before .before .before .before .before .before .before .before .before .before .before .before .before .before .before .before .before .before .before .args .save .entries) (c .before .before .before .before .before .before .before .before .before .before .before .before .before .before .before .before .before .before .before .before .before .before .before .before .before .before .before .before .before .before .before .before .before .before .args .popped) (c .before .before .before .before .before .before .before .before .before .before .before .before .before .before .before .before .before .before .before .before .before .before .before .before .before .before .before .before .max-pns-per-page .ensures) (c .before .before .before .before .before .before .before .before .before .before .before .before .before .before .before .before .before .before .before .before .before .is-mended .ensures)) (c .before .before .before .before .before .before .before .before .before .before .before .before .before .before .before .before .write-pushes .ensures) in
+    (pages, (entries, (carried-buffer w _ _ _ _ _ first pages entries (c .before .before .encode-pages .ensures), carried-numbers (w .plan) _ _ numbers)))
 
 pub carry-out-spec : {M : Type 1} → statement M
 carry-out-spec =
