@@ -3,5 +3,8 @@
 //! `build.rs` prepares them. Every `nomt-<page size>` package builds this same file.
 
 pub mod io;
+mod plain;
+
+pub use plain::Plain;
 
 include!(concat!(env!("OUT_DIR"), "/nomt.rs"));

@@ -1,5 +1,5 @@
 -- A list reads back from a store that holds its pages; and the list that a finish makes, from the store that its pages were written to.
-use Prim.Native.Nat.{ℕ, zero, suc, _+_, _*_, _-_, _/_, _^_, _<_, _≤_}
+use Prim.Native.Nat.{ℕ, zero, suc, _+_, _*_, _-_, _/_, _^_, min, _<_, _≤_}
 use native.Mathlib.Nat.{le-div-iff-mul-le, mul-zero}
 use native.Mathlib.Decide.{decLt, ℕ-discrete}
 use native.Mathlib.Numerals.{add-one}
@@ -8,14 +8,15 @@ use mathlib.Core.Path.{_≡_, refl, ap, ap₂, sym, _∙_, subst}
 use mathlib.Core.Logic.{_⊎_, inl, inr, _≢_}
 use mathlib.Core.Bool.{Bool, true, false, _&&_, cond}
 use mathlib.Core.List.{List, [], _∷_, _++_, List·Memᴰ, List·Memᴰ·head, List·Memᴰ·tail, List·Memᴰ·cases-cons, List·Memᴰ·not-nil}
-use lib.Dec.{eqb}
-use lib.ListN.{length, getD, take, drop, length-take, length-drop, List·getD-eq-default}
-use lib.Seq.{getD-take, getD-drop, take-suc, take-add, take-length, length-take-le}
-use borrow.Author.Tests.{le-leb, lt-ltb, eq-eqb, ne-eqb, eqb-true}
+use lib.Dec.{leb, ltb, eqb}
+use lib.ListN.{length, getD, take, drop, length-take, length-drop, length-append, List·getD-append, List·getD-eq-default}
+use lib.Seq.{getD-take, getD-drop, take-suc, take-add, take-length, length-take-le, take-append-le, drop-append-le, drop-at, getD-at}
+use borrow.Author.Tests.{le-leb, leb-true, lt-ltb, ltb-true, eq-eqb, ne-eqb, eqb-true}
 use Rattle.refusal.specs.Outcome.{answer}
-use Rattle.refusal.proofs.Cases.{cond-cases}
+use Rattle.refusal.proofs.Cases.{check-answer, cond-cases, and-true, or-true}
 use Rattle.page.specs.PageSize.{PageSize, capacity}
 use Rattle.page.specs.Pages.{pageCount, pageAt, writePage, writePages}
+use Rattle.page.specs.Growth.{maxBump}
 use Rattle.page.proofs.PageSizeLaws.{page-least}
 use Rattle.page.proofs.PagesLaws.{page-within, pageCount-mono, pageCount-fits, length-written, page-same, page-other}
 use Rattle.preallocate.specs.Plan.{Plan, planOf}
@@ -24,12 +25,13 @@ use Rattle.free_list.specs.ListPages.{prevOf, countOf, entriesOf}
 use Rattle.free_list.specs.Shape.{FreeList, isShape, isFragmented, entriesBelow, entriesOn}
 use Rattle.free_list.specs.Reading.{emptyList, onTop, countFits, entriesFit, readFrom, readList}
 use Rattle.free_list.proofs.ListPagesLaws.{length-entriesOf, length-encoded, prev-encoded, entries-encoded}
-use Rattle.free_list.proofs.ReadingLaws.{readFrom-page, readFrom-end}
-use Rattle.free_list.proofs.ShapeLaws.{Inside}
+use Rattle.free_list.proofs.ReadingLaws.{readFrom-page, readFrom-end, page-read, read-elim}
+use Rattle.free_list.proofs.ShapeLaws.{Inside, read-accepted}
 use Rattle.free_list.proofs.BelowLaws.{fragmented-is, below-all, below-inner, below-head, below-fragmented, OnPage, on-page}
-use Rattle.allocator.specs.Finish.{headOf, newList, encodedPage, encodedPages, carriedOut}
+use Rattle.allocator.specs.Finish.{headOf, newList, encodedPage, encodedPages, carriedOut, Finished, finishList, firstBad, finished, finish}
+use Rattle.allocator.specs.OpenSave.{Save, listOf, bumped, stateFits}
 use Rattle.allocator.specs.Steps.{previous}
-use Rattle.allocator.proofs.PushLaws.{shape-is, mends, plan-pushes}
+use Rattle.allocator.proofs.PushLaws.{one-of-product, shape-is, mends, plan-pushes}
 use Rattle.allocator.proofs.FreshLaws.{getD-mem}
 use Rattle.allocator.proofs.CarryLaws.{shape-bounds}
 use Rattle.allocator.proofs.NewShapeLaws.{fragmented-exactly, new-shape, length-pages-planned}
@@ -378,14 +380,14 @@ no-more n ns once f = omega (arith, total-most n ns once, total-all n ns f)
 
 -- ---- the numbers of the new list
 
--- What is asked of the list that a save starts from, its bump and the freed numbers.
--- `once`: each number stands in the list once, as a page or as an entry; else a new page could be written over one that is kept.
--- `under`: they are below the bump; else a page taken past the bump could be one that is kept.
--- `pages-some`, `entries-some`, `bump-some`: none is 0, which would end the list.
+-- What is asked of the list that a finish starts from, and of its bump. That the list was read tells only that its pages differ.
+-- `once`: each number stands in it once, as a page or as an entry; else a new page could be written over a page that is kept.
+-- `pages-under`, `entries-under`: all are below the bump; else a page taken past the bump could be written over one that is kept.
+-- `bump-some`: the bump is not 0, which as a page's number would end the list.
 pub record Sound (l : FreeList) (bump : ℕ) : Type 0 where
   pub once : (x : ℕ) → count x (l .pages) + count x (l .entries) ≤ 1
-  pub pages-under : (x : ℕ) → List·Memᴰ x (l .pages) → (1 ≤ x) × (x < bump)
-  pub entries-under : (x : ℕ) → List·Memᴰ x (l .entries) → (1 ≤ x) × (x < bump)
+  pub pages-under : (x : ℕ) → List·Memᴰ x (l .pages) → x < bump
+  pub entries-under : (x : ℕ) → List·Memᴰ x (l .entries) → x < bump
   pub bump-some : 1 ≤ bump
 
 module _ (c : ℕ) (l : FreeList) (k : ℕ) (freed : List ℕ) (bump : ℕ) (two : 2 ≤ c)
@@ -429,8 +431,8 @@ module _ (c : ℕ) (l : FreeList) (k : ℕ) (freed : List ℕ) (bump : ℕ) (two
     none-past x h = go (decLt 0 (count x (l .pages))) (decLt 0 (count x (l .entries)))
       where
         go : Dec (0 < count x (l .pages)) → Dec (0 < count x (l .entries)) → count x (l .pages) + count x (l .entries) ≡ 0
-        go (yes y) d = absurd (omega (arith, sound .pages-under x (count-mem x (l .pages) (omega arith)) .1))
-        go (no n) (yes y) = absurd (omega (arith, sound .entries-under x (count-mem x (l .entries) (omega arith)) .1))
+        go (yes y) d = absurd (omega (arith, sound .pages-under x (count-mem x (l .pages) (omega arith))))
+        go (no n) (yes y) = absurd (omega (arith, sound .entries-under x (count-mem x (l .entries) (omega arith))))
         go (no n) (no o) = omega arith
 
     -- The pages of the new list are different.
@@ -441,21 +443,26 @@ module _ (c : ℕ) (l : FreeList) (k : ℕ) (freed : List ℕ) (bump : ℕ) (two
         go (yes y) = omega (arith, count-new-pages x, sound .once x, count-before x bump (plan .bump - bump) y)
         go (no n) = omega (arith, count-new-pages x, none-past x (omega arith), count-once x bump (plan .bump - bump))
 
-    -- The pages of the new list are below the new bump, and none is 0.
-    pub pages-below : (x : ℕ) → List·Memᴰ x (newList l plan .pages) → (1 ≤ x) × (x < plan .bump)
-    pages-below x m = go (decLt 0 (count x (l .pages))) (decLt 0 (count x (l .entries)))
+    -- The pages of the new list are below the new bump.
+    pub pages-below : (x : ℕ) → List·Memᴰ x (newList l plan .pages) → x < plan .bump
+    pages-below x m = go (decLt x bump)
       where
         up : bump ≤ plan .bump
         up = plan-bump c l two shape k freed bump
 
-        go : Dec (0 < count x (l .pages)) → Dec (0 < count x (l .entries)) → (1 ≤ x) × (x < plan .bump)
-        go (yes y) d = omega (arith, up, sound .pages-under x (count-mem x (l .pages) (omega arith)))
-        go (no n) (yes y) = omega (arith, up, sound .entries-under x (count-mem x (l .entries) (omega arith)))
-        go (no n) (no o) =
-            let past = count-within x bump (plan .bump - bump) (omega (arith, mem-count x (newList l plan .pages) m, count-new-pages x)) in
-            omega (arith, up, past, sound .bump-some)
+        go : Dec (x < bump) → x < plan .bump
+        go (yes y) = omega (arith, up)
+        go (no n) =
+            let past = count-within x bump (plan .bump - bump) (omega (arith, mem-count x (newList l plan .pages) m, count-new-pages x, none-past x (omega arith))) in
+            omega (arith, up, past)
 
-    -- no two pages of the new list have one number
+    -- None is 0, where none of the old list is.
+    pub pages-some : count 0 (l .pages) + count 0 (l .entries) ≡ 0 → (x : ℕ) → List·Memᴰ x (newList l plan .pages) → 1 ≤ x
+    pages-some none zero m =
+        absurd (omega (arith, mem-count 0 (newList l plan .pages) m, count-new-pages 0, count-before 0 bump (plan .bump - bump) (sound .bump-some)))
+    pages-some none (suc x) m = omega arith
+
+    -- No two pages of the new list have one number.
     pub pages-differ : (i j : ℕ) → i < j → j < length (newList l plan .pages) → getD (newList l plan .pages) i 0 ≢ getD (newList l plan .pages) j 0
     pages-differ i j h k e = omega (arith, count-two (newList l plan .pages) i j h k e, pages-once (getD (newList l plan .pages) j 0))
 
@@ -624,7 +631,15 @@ module _ (s : ℕ) (size : PageSize s) (l : FreeList) (k : ℕ) (freed : List �
     same-as : (j : ℕ) → j + 1 < made .kept → SameKept s l made j
     same-as = kept-below s l k freed bump (size .two-entries) (held .shape) kL changed
 
-    below-bump : (x : ℕ) → List·Memᴰ x (new .pages) → (1 ≤ x) × (x < made .bump)
+    no-zero : count 0 (l .pages) + count 0 (l .entries) ≡ 0
+    no-zero = go (decLt 0 (count 0 (l .pages))) (decLt 0 (count 0 (l .entries)))
+      where
+        go : Dec (0 < count 0 (l .pages)) → Dec (0 < count 0 (l .entries)) → count 0 (l .pages) + count 0 (l .entries) ≡ 0
+        go (yes y) d = absurd (omega (arith, at-places (λ (n : ℕ). Inside (pageCount s store) n) (l .pages) (held .inside) 0 (count-mem 0 (l .pages) (omega arith)) .0))
+        go (no n) (yes y) = absurd (omega (arith, held .entries-inside 0 (count-mem 0 (l .entries) (omega arith)) .0))
+        go (no n) (no o) = omega arith
+
+    below-bump : (x : ℕ) → List·Memᴰ x (new .pages) → x < made .bump
     below-bump = pages-below (capacity s) l k freed bump (size .two-entries) (held .shape) sound
 
     more-inside : (x : ℕ) → Inside (pageCount s store) x → Inside (pageCount s after) x
@@ -651,7 +666,7 @@ module _ (s : ℕ) (size : PageSize s) (l : FreeList) (k : ℕ) (freed : List �
         where
           go : Dec (j + 1 < made .kept) → Inside (pageCount s after) (getD (new .pages) j 0)
           go (yes y) = rw (same-as j y .number) (more-inside (getD (l .pages) j 0) (held .inside j (omega (arith, kept-few))))
-          go (no n) = (below-bump _ (getD-mem (new .pages) j h) .0, found j (omega arith) h .1)
+          go (no n) = (pages-some (capacity s) l k freed bump (size .two-entries) (held .shape) sound no-zero _ (getD-mem (new .pages) j h), found j (omega arith) h .1)
 
       new-before : prevOf (pageAt s after (getD (new .pages) j 0)) ≡ previous (new .pages) j
       new-before = go (decLt (j + 1) (made .kept))
@@ -724,8 +739,337 @@ module _ (s : ℕ) (size : PageSize s) (l : FreeList) (k : ℕ) (freed : List �
     unfolding carriedOut
     found j h inside =
         let f = written-found s new long differ (length (new .pages) - (made .kept - 1)) (made .kept - 1) store (omega (arith, top-within)) j (omega arith) (omega (arith, top-within)) in
-        let small = pages-below (capacity s) l k freed bump (size .two-entries) (held .shape) sound (getD (new .pages) j 0) (getD-mem (new .pages) j inside) .1 in
+        let small = pages-below (capacity s) l k freed bump (size .two-entries) (held .shape) sound (getD (new .pages) j 0) (getD-mem (new .pages) j inside) in
         (f .0, page-inside s _ (getD (new .pages) j 0) (omega (arith, page-least size)) (f .1) (omega arith))
 
     pub new-read : readList s after (headOf new) ≡ answer new
     new-read = read-held s after new (size .two-entries) (new-held after grew freed-inside kept-same found)
+
+-- ---- a list that was read is held
+
+-- a count that fits says: the head has an entry; a page below it is whole, or lacks one under a head of one
+fitting-head : (c above entries m : ℕ) → above ≡ 0 → countFits c above entries m ≡ true → 1 ≤ m
+unfolding countFits
+fitting-head c above entries m e f = leb-true 1 m (and-true (leb 1 m) (leb m c) (rw (eq-eqb above 0 e) at f) .0)
+
+fitting-under : (c above entries m : ℕ) → 1 ≤ above → countFits c above entries m ≡ true → (m ≡ c) ⊎ ((above ≡ 1) × (entries ≡ 1) × (m + 1 ≡ c))
+unfolding countFits
+fitting-under c above entries m h f = go (or-true (eqb m c) _ (rw (ne-eqb above 0 (omega arith)) at f))
+  where
+    go : (eqb m c ≡ true) ⊎ (eqb above 1 && (eqb entries 1 && eqb (m + 1) c) ≡ true) → (m ≡ c) ⊎ ((above ≡ 1) × (entries ≡ 1) × (m + 1 ≡ c))
+    go (inl e) = inl (eqb-true m c e)
+    go (inr e) =
+        let t = and-true (eqb above 1) _ e in
+        let u = and-true (eqb entries 1) (eqb (m + 1) c) (t .1) in
+        inr (eqb-true above 1 (t .0), eqb-true entries 1 (u .0), eqb-true (m + 1) c (u .1))
+
+-- n pages with m entries, under `above` pages with `entries` entries
+abbrev Under : ℕ → ℕ → ℕ → ℕ → ℕ → Type 0
+Under c above entries n m = (2 ≤ above → m ≡ c * n) × (above ≡ 1 → (m ≡ c * n) ⊎ ((m + 1 ≡ c * n) × (entries ≡ 1)))
+
+-- what is above them: no page and no entry, or some of both
+abbrev Above : ℕ → ℕ → Type 0
+Above above entries = (above ≡ 0 → entries ≡ 0) × (1 ≤ above → 1 ≤ entries)
+
+under-more : (c above entries n m x : ℕ) → countFits c above entries x ≡ true → Under c (above + 1) (entries + x) n m → Under c above entries (n + 1) (m + x)
+under-more c above entries n m x f below = (λ h. deeper h (fitting-under c above entries x (omega arith) f), λ h. next h (fitting-under c above entries x (omega arith) f))
+  where
+    deeper : 2 ≤ above → (x ≡ c) ⊎ ((above ≡ 1) × (entries ≡ 1) × (x + 1 ≡ c)) → m + x ≡ c * (n + 1)
+    deeper h (inl e) = omega (arith, below .0 (omega arith))
+    deeper h (inr t) = absurd (omega (arith, t .0))
+
+    next : above ≡ 1 → (x ≡ c) ⊎ ((above ≡ 1) × (entries ≡ 1) × (x + 1 ≡ c)) → (m + x ≡ c * (n + 1)) ⊎ ((m + x + 1 ≡ c * (n + 1)) × (entries ≡ 1))
+    next h (inl e) = inl (omega (arith, below .0 (omega arith)))
+    next h (inr t) = inr (omega (arith, below .0 (omega arith), t .2), t .1)
+
+above-more : (c above entries x : ℕ) → countFits c above entries x ≡ true → Above above entries → Above (above + 1) (entries + x)
+above-more c above entries x f a = (λ h. absurd (omega arith), λ _. go (ℕ-discrete above 0))
+  where
+    go : Dec (above ≡ 0) → 1 ≤ entries + x
+    go (yes e) = omega (arith, fitting-head c above entries x e f)
+    go (no ne) = omega (arith, a .1 (omega arith))
+
+-- so many entries stand below their top
+under-below : (c above entries n m : ℕ) → Above above entries → Under c above entries n m → entriesBelow c (above + n) (entries + m) n ≡ m
+under-below c above entries n m a u = place (decLt above 1) (decLt above 2)
+  where
+    one : above ≡ 1 → (m ≡ c * n) ⊎ ((m + 1 ≡ c * n) × (entries ≡ 1)) → (b : Bool) → isFragmented c (above + n) (entries + m) ≡ b → entriesBelow c (above + n) (entries + m) n ≡ m
+    one h (inl e) true f =
+        let t = fragmented-is c (above + n) (entries + m) f in
+        let under : c * (above + n - 1) ≡ c * n = ap (λ (i : ℕ). c * i) last in
+        absurd (omega (arith, t .1, a .1 (omega arith)))
+      where
+        last : above + n - 1 ≡ n
+        last = omega arith
+    one h (inl e) false f = sym (below-head c (above + n) (entries + m) n (omega arith) f) ∙ sym e
+    one h (inr t) true f = sym (below-fragmented c (above + n) (entries + m) n (omega arith) f) ∙ omega (arith, t .1)
+    one h (inr t) false f =
+        let some : 1 ≤ n = one-of-product c n (omega (arith, t .0)) in
+        let under : c * (above + n - 1) ≡ c * n = ap (λ (i : ℕ). c * i) last in
+        absurd (not-fragmented c (above + n) (entries + m) f (omega arith) (omega (arith, t .0, t .1)))
+      where
+        last : above + n - 1 ≡ n
+        last = omega arith
+
+    place : Dec (above < 1) → Dec (above < 2) → entriesBelow c (above + n) (entries + m) n ≡ m
+    place (yes y) d = sym (below-all c (above + n) (entries + m) n (omega arith)) ∙ omega (arith, a .0 (omega arith))
+    place (no n1) (yes y) = one (omega arith) (u .1 (omega arith)) (isFragmented c (above + n) (entries + m)) refl
+    place (no n1) (no n2) = sym (below-inner c (above + n) (entries + m) n (omega arith)) ∙ sym (u .0 (omega arith))
+
+-- the previous numbers of a list with one more page on top
+previous-append : (ns : List ℕ) (p j : ℕ) → j ≤ length ns → previous (ns ++ (p ∷ [])) j ≡ previous ns j
+previous-append ns p zero h = refl
+previous-append ns p (suc j) h =
+    let e : suc j - 1 ≡ j = omega arith in
+    rw (ne-eqb (suc j) 0 (omega arith), e) (List·getD-append ns (p ∷ []) 0 j (omega arith))
+
+previous-last : (ns : List ℕ) (p : ℕ) → previous (ns ++ (p ∷ [])) (length (ns ++ (p ∷ []))) ≡ p
+previous-last ns p =
+    let e : length (ns ++ (p ∷ [])) ≡ suc (length ns) = length-append ns (p ∷ []) ∙ add-one (length ns) in
+    let f : suc (length ns) - 1 ≡ length ns = omega arith in
+    rw (e, ne-eqb (suc (length ns)) 0 (omega arith), f) (getD-at ns p [] 0 (length ns) refl)
+
+part-append : (from n : ℕ) (ns more : List ℕ) → from + n ≤ length ns → take n (drop from (ns ++ more)) ≡ take n (drop from ns)
+part-append from n ns more h = rw (drop-append-le from ns more (omega arith), take-append-le n (drop from ns) more (omega (arith, length-drop from ns)))
+
+-- the pages that were read, within a list of P pages and L entries: the number of the page under each, and its entries
+record Chained (s : ℕ) (store : List ℕ) (P L p : ℕ) (l : FreeList) : Type 0 where
+  top : p ≡ previous (l .pages) (length (l .pages))
+  before : (j : ℕ) → j < length (l .pages) → prevOf (pageAt s store (getD (l .pages) j 0)) ≡ previous (l .pages) j
+  order : (j : ℕ) → j < length (l .pages) → entriesBelow (capacity s) P L j ≤ entriesBelow (capacity s) P L (j + 1)
+  within : (j : ℕ) → j < length (l .pages) → entriesBelow (capacity s) P L (j + 1) ≤ length (l .entries)
+  part : (j : ℕ) → j < length (l .pages) → entriesOf (pageAt s store (getD (l .pages) j 0))
+      ≡ take (entriesBelow (capacity s) P L (j + 1) - entriesBelow (capacity s) P L j) (drop (entriesBelow (capacity s) P L j) (l .entries))
+
+-- one page more
+module _ (s : ℕ) (store : List ℕ) (P L p : ℕ) (l : FreeList) where
+  abbrev page : List ℕ
+  page = pageAt s store p
+
+  abbrev onIt : FreeList
+  onIt = onTop p (entriesOf page) l
+
+  abbrev upTo : ℕ → ℕ
+  upTo n = entriesBelow (capacity s) P L n
+
+  module _ (c : Chained s store P L (prevOf page) l) (here : upTo (length (l .pages)) ≡ length (l .entries))
+      (next : upTo (length (l .pages) + 1) ≡ length (l .entries) + countOf page) where
+    many : length (onIt .pages) ≡ length (l .pages) + 1
+    many = length-append (l .pages) (p ∷ [])
+
+    all : length (onIt .entries) ≡ length (l .entries) + countOf page
+    all = length-append (l .entries) (entriesOf page) ∙ ap (λ (n : ℕ). length (l .entries) + n) (length-entriesOf page)
+
+    -- what holds of the pages below and of the page on top, holds of all
+    each : (Q : ℕ → Type 0) → ((j : ℕ) → j < length (l .pages) → Q j) → Q (length (l .pages)) → (j : ℕ) → j < length (onIt .pages) → Q j
+    each Q f q j h = go (ℕ-discrete (length (l .pages)) j)
+      where
+        go : Dec (length (l .pages) ≡ j) → Q j
+        go (yes e) = subst Q e q
+        go (no ne) = f j (omega (arith, many))
+
+    at-below : (j : ℕ) → j < length (l .pages) → getD (onIt .pages) j 0 ≡ getD (l .pages) j 0
+    at-below j h = List·getD-append (l .pages) (p ∷ []) 0 j h
+
+    at-top : getD (onIt .pages) (length (l .pages)) 0 ≡ p
+    at-top = getD-at (l .pages) p [] 0 (length (l .pages)) refl
+
+    part-top : entriesOf page ≡ take (upTo (length (l .pages) + 1) - upTo (length (l .pages))) (drop (upTo (length (l .pages))) (onIt .entries))
+    part-top =
+        let few : length (l .entries) + countOf page - length (l .entries) ≡ length (entriesOf page) = omega (arith, length-entriesOf page) in
+        rw (next, here, few, drop-at (l .entries) (entriesOf page) (length (l .entries)) refl) (sym (take-length (entriesOf page)))
+
+    chained-more : Chained s store P L p onIt
+    chained-more =
+        record {
+          top = sym (previous-last (l .pages) p);
+          before = each (λ (j : ℕ). prevOf (pageAt s store (getD (onIt .pages) j 0)) ≡ previous (onIt .pages) j)
+              (λ j h. ap (λ (n : ℕ). prevOf (pageAt s store n)) (at-below j h) ∙ c .before j h ∙ sym (previous-append (l .pages) p j (omega arith)))
+              (ap (λ (n : ℕ). prevOf (pageAt s store n)) at-top ∙ c .top ∙ sym (previous-append (l .pages) p (length (l .pages)) (omega arith)));
+          order = each (λ (j : ℕ). upTo j ≤ upTo (j + 1)) (c .order) (omega arith);
+          within = each (λ (j : ℕ). upTo (j + 1) ≤ length (onIt .entries)) (λ j h. omega (arith, c .within j h, all)) (omega (arith, all));
+          part = each (λ (j : ℕ). entriesOf (pageAt s store (getD (onIt .pages) j 0)) ≡ take (upTo (j + 1) - upTo j) (drop (upTo j) (onIt .entries)))
+              (λ j h. ap (λ (n : ℕ). entriesOf (pageAt s store n)) (at-below j h)
+              ∙ c .part j h
+              ∙ sym (part-append (upTo j) (upTo (j + 1) - upTo j) (l .entries) (entriesOf page) (omega (arith, c .order j h, c .within j h))))
+              (ap (λ (n : ℕ). entriesOf (pageAt s store n)) at-top ∙ part-top);
+        }
+
+-- every list that is read, page by page
+abbrev Reads : (s : ℕ) (store : List ℕ) → ℕ → ℕ → ℕ → FreeList → Type 0
+Reads s store above entries p l =
+    Under (capacity s) above entries (length (l .pages)) (length (l .entries))
+    × (Above above entries → (P L : ℕ) → P ≡ above + length (l .pages) → L ≡ entries + length (l .entries) → Chained s store P L p l)
+
+module _ (s : ℕ) (store : List ℕ) where
+  reads-none : (above entries : ℕ) → Reads s store above entries 0 emptyList
+  reads-none above entries = (
+    (λ _. sym (mul-zero (capacity s)), λ _. inl (sym (mul-zero (capacity s)))),
+    λ a P L e f. record {
+      top = refl;
+      before = λ j h. absurd (omega arith);
+      order = λ j h. absurd (omega arith);
+      within = λ j h. absurd (omega arith);
+      part = λ j h. absurd (omega arith);
+    },
+  )
+
+  reads-more : (above entries p : ℕ) (l : FreeList) → 1 ≤ p → p < pageCount s store
+      → countFits (capacity s) above entries (countOf (pageAt s store p)) ≡ true
+      → entriesFit (pageCount s store) (entriesOf (pageAt s store p)) ≡ true
+      → Reads s store (above + 1) (entries + countOf (pageAt s store p)) (prevOf (pageAt s store p)) l
+      → Reads s store above entries p (onTop p (entriesOf (pageAt s store p)) l)
+  reads-more above entries p l one inside fits entries-fit below =
+      let x = countOf (pageAt s store p) in
+      let n = length (l .pages) in
+      let m = length (l .entries) in
+      let pages : length (l .pages ++ (p ∷ [])) ≡ n + 1 = length-append (l .pages) (p ∷ []) in
+      let all : length (l .entries ++ entriesOf (pageAt s store p)) ≡ m + x =
+      length-append (l .entries) (entriesOf (pageAt s store p)) ∙ ap (λ (i : ℕ). length (l .entries) + i) (length-entriesOf (pageAt s store p)) in
+      let under : Under (capacity s) above entries (n + 1) (m + x) = under-more (capacity s) above entries n m x fits (below .0) in (
+        rw (pages, all) under,
+        λ a P L e f.
+            let more = above-more (capacity s) above entries x fits a in
+            let P-is : above + 1 + n ≡ P = omega arith in
+            let L-is : entries + x + m ≡ L = omega arith in
+            let P-on : above + (n + 1) ≡ P = omega arith in
+            let L-on : entries + (m + x) ≡ L = omega arith in
+            chained-more s store P L p l (below .1 more P L (sym P-is) (sym L-is))
+            (ap₂ (λ (i j : ℕ). entriesBelow (capacity s) i j n) (sym P-is) (sym L-is) ∙ under-below (capacity s) (above + 1) (entries + x) n m more (below .0))
+            (ap₂ (λ (i j : ℕ). entriesBelow (capacity s) i j (n + 1)) (sym P-on) (sym L-on) ∙ under-below (capacity s) above entries (n + 1) (m + x) a under),
+      )
+
+  -- no more pages are read than allowed
+  none-allowed : (above entries q : ℕ) {l : FreeList} → readFrom s store 0 above entries (suc q) ≡ answer l → ⊥
+  unfolding readFrom
+  none-allowed above entries q e = let z : _≡_ {A = ℕ} 0 1 = cc in omega arith
+
+  none-read : (allowed above entries : ℕ) {l : FreeList} → readFrom s store allowed above entries 0 ≡ answer l → length (l .pages) ≤ allowed
+  none-read allowed above entries {l} e =
+      let same : emptyList ≡ l = unanswer (sym (readFrom-end s store allowed above entries) ∙ e) in
+      rw (← same) (omega arith)
+    where
+      unanswer : {x y : FreeList} → answer x ≡ answer y → x ≡ y
+      unanswer e = cc
+
+  read-few : (allowed above entries p : ℕ) (l : FreeList) → readFrom s store allowed above entries p ≡ answer l → length (l .pages) ≤ allowed
+  read-few zero above entries zero l e = none-read zero above entries e
+  read-few zero above entries (suc q) l e = absurd (none-allowed above entries q e)
+  read-few (suc allowed) above entries zero l e = none-read (suc allowed) above entries e
+  read-few (suc allowed) above entries (suc q) l e =
+      let r = page-read s store allowed above entries q e in
+      omega (arith, ap (λ (m : FreeList). length (m .pages)) (r .whole), length-append (r .below .pages) (suc q ∷ []), read-few allowed _ _ _ (r .below) (r .reads))
+
+  -- A list that was read from a store is held by it, and its head is the page that it was read from.
+  module _ (head : ℕ) (l : FreeList) (read : readList s store head ≡ answer l) where
+    chained : Chained s store (length (l .pages)) (length (l .entries)) head l
+    unfolding readList
+    chained =
+        read-elim s store (Reads s store) reads-none reads-more (pageCount s store) 0 0 head l read .1
+        (λ _. refl, λ h. absurd (omega arith)) (length (l .pages)) (length (l .entries)) (omega arith) (omega arith)
+
+    chained-few : length (l .pages) ≤ pageCount s store
+    unfolding readList
+    chained-few = read-few (pageCount s store) 0 0 head l read
+
+    chained-entries : (j : ℕ) → j < length (l .pages) → entriesOf (pageAt s store (getD (l .pages) j 0)) ≡ entriesOn (capacity s) l j
+    unfolding entriesOn
+    chained-entries j h = chained .part j h
+
+    pub held-read : Held s store l
+    held-read =
+        let a = read-accepted s store head l read in
+        record {
+          shape = a .shape;
+          few = chained-few;
+          inside = λ j h. a .pages-inside (getD (l .pages) j 0) (getD-mem (l .pages) j h);
+          before = chained .before;
+          entries = chained-entries;
+          entries-inside = a .entries-inside;
+        }
+
+    pub head-read : head ≡ headOf l
+    unfolding headOf
+    head-read = chained .top ∙ go (length (l .pages)) refl
+      where
+        go : (n : ℕ) → length (l .pages) ≡ n → previous (l .pages) (length (l .pages)) ≡ getD (l .pages) (length (l .pages) - 1) 0
+        go zero e = rw e (sym (List·getD-eq-default (l .pages) 0 (omega arith)))
+        go (suc n) e = rw (ne-eqb (length (l .pages)) 0 (omega arith))
+
+-- ---- what a finish makes reads back
+
+module _ (s : ℕ) (size : PageSize s) (l : FreeList) (store : List ℕ) (head : ℕ) (read : readList s store head ≡ answer l)
+    (bump handed : ℕ) (freed : List ℕ) (sound : Sound l bump) where
+  -- what a finish makes reads back from the store that its pages were written to
+  abbrev ReadsBack : Finished → Type 0
+  ReadsBack f =
+      f .bump ≤ 2 ^ 32 - 1 → ((n : ℕ) → List·Memᴰ n freed → Inside (pageCount s (writePages s store (f .written))) n)
+      → readList s (writePages s store (f .written)) (headOf (f .list)) ≡ answer (f .list)
+
+  reads-same : ReadsBack (record { list = l; bump = bump; written = [] })
+  unfolding writePages
+  reads-same limit inside = ap (readList s store) (sym (head-read s store head l read)) ∙ read
+
+  reads-changed : (k : ℕ) → k ≤ length (l .entries) → eqb k 0 && eqb (length freed) 0 ≡ false → ReadsBack (carriedOut s l (planOf (capacity s) l k freed bump))
+  unfolding carriedOut
+  reads-changed k kL changed limit inside = new-read s size l k freed bump store (held-read s store head l read) sound kL changed limit inside
+
+  -- After a list was read from a store, and the pages that its finish makes were written there, as encoded and each at its number, reading
+  -- from the new head gives the new list. Asked for are a list that is sound; a bump that stays a page number, since no store has more
+  -- pages; and freed numbers that the store has pages for, since they become entries, and an entry past the store is refused.
+  pub finish-reads : finishList s l bump handed freed .bump ≤ 2 ^ 32 - 1
+      → ((n : ℕ) → List·Memᴰ n freed → Inside (pageCount s (writePages s store (finishList s l bump handed freed .written))) n)
+      → readList s (writePages s store (finishList s l bump handed freed .written)) (headOf (finishList s l bump handed freed .list)) ≡ answer (finishList s l bump handed freed .list)
+  unfolding finishList
+  finish-reads =
+      let k = min handed (length (l .entries)) in
+      cond-cases ReadsBack (eqb k 0 && eqb (length freed) 0) _ _ (λ _. reads-same) (reads-changed k (omega arith))
+
+-- none of the freed numbers is bad
+good-freed : (limit : ℕ) (ns : List ℕ) → firstBad limit ns ≡ length ns → (n : ℕ) → List·Memᴰ n ns → (1 ≤ n) × (n < limit)
+unfolding firstBad
+good-freed limit [] e n m = absurd (List·Memᴰ·not-nil m)
+good-freed limit (x ∷ ns) e n m = go (leb 1 x && ltb x limit) refl (good-freed limit ns)
+  where
+    this : leb 1 x && ltb x limit ≡ true → (1 ≤ x) × (x < limit)
+    this t = let u = and-true (leb 1 x) (ltb x limit) t in (leb-true 1 x (u .0), ltb-true x limit (u .1))
+
+    at : leb 1 x && ltb x limit ≡ true → (n ≡ x) ⊎ List·Memᴰ n ns → (List·Memᴰ n ns → (1 ≤ n) × (n < limit)) → (1 ≤ n) × (n < limit)
+    at t (inl f) rest = rw f (this t)
+    at t (inr h) rest = rest h
+
+    go : (b : Bool) → leb 1 x && ltb x limit ≡ b → (firstBad limit ns ≡ length ns → (n : ℕ) → List·Memᴰ n ns → (1 ≤ n) × (n < limit)) → (1 ≤ n) × (n < limit)
+    go true t rest =
+        let more : suc (firstBad limit ns) ≡ suc (length ns) = rw t at e in
+        at t (List·Memᴰ·cases-cons m) (rest (omega arith) n)
+    go false t rest =
+        let none : 0 ≡ suc (length ns) = rw t at e in
+        absurd (omega arith)
+
+-- A list was read from a store, and a save of it was finished: from the store that the pages were written to, reading from the new head
+-- gives the new list. Asked for are a list that is sound, and a store that has pages for the freed numbers once the pages are written;
+-- it is grown to the recorded length before.
+pub finished-reads : (s : ℕ) → PageSize s → (v : Save) (store : List ℕ) (head : ℕ) → readList s store head ≡ answer (listOf v) → Sound (listOf v) (bumped v)
+    → (freed : List ℕ) (bytesLent numbersLent : ℕ) {f : Finished} → finish s v freed bytesLent numbersLent ≡ answer f
+    → ((n : ℕ) → List·Memᴰ n freed → n < pageCount s (writePages s store (f .written)))
+    → readList s (writePages s store (f .written)) (headOf (f .list)) ≡ answer (f .list)
+unfolding finish finished
+finished-reads s size v store head read sound freed bytesLent numbersLent {f} e inside =
+    let made = finished s v freed in
+    let c₁ = check-answer (stateFits s v) _ _ _ e in
+    let c₂ = check-answer (leb (made .bump) maxBump) _ _ _ (c₁ .1) in
+    let c₃ = check-answer (eqb (firstBad (bumped v) freed) (length freed)) _ _ _ (c₂ .1) in
+    let c₄ = check-answer (leb (length (made .list .pages)) (length (v .pageTable)) && leb (length (made .list .entries)) (length (v .entryTable))) _ _ _ (c₃ .1) in
+    let c₅ = check-answer (leb (s * length (made .written)) bytesLent && leb (length (made .written)) numbersLent) _ _ _ (c₄ .1) in
+    let is : made ≡ f = unanswer (c₅ .1) in
+    subst (λ (g : Finished). ((n : ℕ) → List·Memᴰ n freed → n < pageCount s (writePages s store (g .written))) → readList s (writePages s store (g .written)) (headOf (g .list)) ≡ answer (g .list)) is
+    (made-reads (leb-true (made .bump) maxBump (c₂ .0)) (eqb-true (firstBad (bumped v) freed) (length freed) (c₃ .0))) inside
+  where
+    unanswer : {x y : Finished} → answer x ≡ answer y → x ≡ y
+    unanswer e = cc
+
+    made-reads : finished s v freed .bump ≤ maxBump → firstBad (bumped v) freed ≡ length freed
+        → ((n : ℕ) → List·Memᴰ n freed → n < pageCount s (writePages s store (finished s v freed .written)))
+        → readList s (writePages s store (finished s v freed .written)) (headOf (finished s v freed .list)) ≡ answer (finished s v freed .list)
+    made-reads limit good inside =
+        finish-reads s size (listOf v) store head read (bumped v) (v .handed) freed sound (omega arith) (λ n m. (good-freed (bumped v) freed good n m .0, inside n m))

@@ -1,3 +1,4 @@
 -- What each function of the C interface puts into its `out`, in order.
 pub mod Lists
+pub mod Saves
 pub mod Totals

@@ -1,7 +1,6 @@
 //! What the programs of this workspace share.
 
 pub mod lists;
-mod memory_file;
 mod random;
 mod store;
 

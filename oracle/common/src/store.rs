@@ -1,6 +1,6 @@
 //! A store in memory that both sides read: the library as lent bytes, the Rust as a file.
 
-use crate::memory_file;
+use memory_file::memory_file;
 use std::{
     ffi::{c_int, c_void},
     fs::File,

@@ -1,4 +1,7 @@
 //! The C functions of libmopsienna, each as a safe function.
+//!
+//! The functions of libsized are those of the list and the save at any page size; a module of their
+//! own holds them.
 
 use std::fmt;
 
@@ -76,6 +79,56 @@ extern "C" {
         entries_len: usize,
         out: &mut Out,
     ) -> u32;
+    fn mopsienna_hand_out(
+        bump: u32,
+        length: u32,
+        list_pages: u64,
+        list_entries: u64,
+        count: u64,
+        pages: *const u32,
+        pages_len: usize,
+        entries: *const u32,
+        entries_len: usize,
+        out: &mut Out,
+    ) -> u32;
+    fn mopsienna_finish(
+        bump: u32,
+        length: u32,
+        list_pages: u64,
+        list_entries: u64,
+        count: u64,
+        pages: *mut u32,
+        pages_len: usize,
+        entries: *mut u32,
+        entries_len: usize,
+        freed: *const u32,
+        freed_len: usize,
+        buffer: *mut u8,
+        buffer_len: usize,
+        numbers: *mut u32,
+        numbers_len: usize,
+        out: &mut Out,
+    ) -> u32;
+}
+
+/// An open save's numbers: the store's bump and recorded length, the pages and entries of its list,
+/// and how many numbers were handed out.
+#[derive(Clone, Copy, Debug)]
+pub struct Save {
+    pub bump: u32,
+    pub length: u32,
+    pub pages: u64,
+    pub entries: u64,
+    pub count: u64,
+}
+
+/// What is lent to a finish to be written: the list's two tables, the page buffer and its numbers.
+#[derive(Clone, Debug, PartialEq)]
+pub struct Lent {
+    pub pages: Vec<u32>,
+    pub entries: Vec<u32>,
+    pub buffer: Vec<u8>,
+    pub numbers: Vec<u32>,
 }
 
 /// Answers the grown length.
@@ -106,4 +159,171 @@ pub fn read_list(store: &[u8], head: u32, pages: &mut [u32], entries: &mut [u32]
             out,
         )
     })
+}
+
+/// Hands out the next number. Answers it, the count after it and the recorded length after it.
+pub fn hand_out(save: &Save, pages: &[u32], entries: &[u32]) -> Reply {
+    // SAFETY: the function reads only the tables, and writes only to the eight places of `out`.
+    Reply::of(|out| unsafe {
+        mopsienna_hand_out(
+            save.bump,
+            save.length,
+            save.pages,
+            save.entries,
+            save.count,
+            pages.as_ptr(),
+            pages.len(),
+            entries.as_ptr(),
+            entries.len(),
+            out,
+        )
+    })
+}
+
+/// Finishes the save. Answers the head, the bump, the recorded length, the pages and the entries of
+/// the new list and how many pages are to be written.
+pub fn finish(save: &Save, freed: &[u32], lent: &mut Lent) -> Reply {
+    // SAFETY: the function reads only what it is lent, and writes only to the tables, the buffer,
+    // the numbers and the eight places of `out`.
+    Reply::of(|out| unsafe {
+        mopsienna_finish(
+            save.bump,
+            save.length,
+            save.pages,
+            save.entries,
+            save.count,
+            lent.pages.as_mut_ptr(),
+            lent.pages.len(),
+            lent.entries.as_mut_ptr(),
+            lent.entries.len(),
+            freed.as_ptr(),
+            freed.len(),
+            lent.buffer.as_mut_ptr(),
+            lent.buffer.len(),
+            lent.numbers.as_mut_ptr(),
+            lent.numbers.len(),
+            out,
+        )
+    })
+}
+
+/// The same at a page size that is given with each call.
+pub mod sized {
+    use super::{Lent, Out, Reply, Save};
+
+    /// What a call gives for a number that is no page size.
+    pub const NO_PAGE_SIZE: u32 = 255;
+
+    extern "C" {
+        fn sized_read_list(
+            size: u64,
+            store: *const u8,
+            store_len: usize,
+            head: u32,
+            pages: *mut u32,
+            pages_len: usize,
+            entries: *mut u32,
+            entries_len: usize,
+            out: &mut Out,
+        ) -> u32;
+        fn sized_hand_out(
+            size: u64,
+            bump: u32,
+            length: u32,
+            list_pages: u64,
+            list_entries: u64,
+            count: u64,
+            pages: *const u32,
+            pages_len: usize,
+            entries: *const u32,
+            entries_len: usize,
+            out: &mut Out,
+        ) -> u32;
+        fn sized_finish(
+            size: u64,
+            bump: u32,
+            length: u32,
+            list_pages: u64,
+            list_entries: u64,
+            count: u64,
+            pages: *mut u32,
+            pages_len: usize,
+            entries: *mut u32,
+            entries_len: usize,
+            freed: *const u32,
+            freed_len: usize,
+            buffer: *mut u8,
+            buffer_len: usize,
+            numbers: *mut u32,
+            numbers_len: usize,
+            out: &mut Out,
+        ) -> u32;
+    }
+
+    pub fn read_list(
+        size: u64,
+        store: &[u8],
+        head: u32,
+        pages: &mut [u32],
+        entries: &mut [u32],
+    ) -> Reply {
+        // SAFETY: as for the function of the same name without a page size.
+        Reply::of(|out| unsafe {
+            sized_read_list(
+                size,
+                store.as_ptr(),
+                store.len(),
+                head,
+                pages.as_mut_ptr(),
+                pages.len(),
+                entries.as_mut_ptr(),
+                entries.len(),
+                out,
+            )
+        })
+    }
+
+    pub fn hand_out(size: u64, save: &Save, pages: &[u32], entries: &[u32]) -> Reply {
+        // SAFETY: as for the function of the same name without a page size.
+        Reply::of(|out| unsafe {
+            sized_hand_out(
+                size,
+                save.bump,
+                save.length,
+                save.pages,
+                save.entries,
+                save.count,
+                pages.as_ptr(),
+                pages.len(),
+                entries.as_ptr(),
+                entries.len(),
+                out,
+            )
+        })
+    }
+
+    pub fn finish(size: u64, save: &Save, freed: &[u32], lent: &mut Lent) -> Reply {
+        // SAFETY: as for the function of the same name without a page size.
+        Reply::of(|out| unsafe {
+            sized_finish(
+                size,
+                save.bump,
+                save.length,
+                save.pages,
+                save.entries,
+                save.count,
+                lent.pages.as_mut_ptr(),
+                lent.pages.len(),
+                lent.entries.as_mut_ptr(),
+                lent.entries.len(),
+                freed.as_ptr(),
+                freed.len(),
+                lent.buffer.as_mut_ptr(),
+                lent.buffer.len(),
+                lent.numbers.as_mut_ptr(),
+                lent.numbers.len(),
+                out,
+            )
+        })
+    }
 }

