@@ -64,6 +64,13 @@ impl Store {
     /// Cuts the store to a length that is not above its own.
     pub fn cut(&mut self, length: usize) -> io::Result<()> {
         assert!(length <= self.length);
+        self.set_length(length)
+    }
+
+    /// Gives the store a length that is not above its first one. What was cut off is gone, and
+    /// zeros are added.
+    pub fn set_length(&mut self, length: usize) -> io::Result<()> {
+        assert!(length <= self.mapped);
         self.length = length;
         self.file.set_len(length as u64)
     }
@@ -75,7 +82,7 @@ impl Store {
 
     pub fn bytes(&self) -> &[u8] {
         // SAFETY: the file has these bytes, they are mapped, and they change only through
-        // `bytes_mut` and `cut`.
+        // `bytes_mut` and `set_length`.
         unsafe { slice::from_raw_parts(self.start, self.length) }
     }
 

@@ -6,6 +6,7 @@
 mod grow;
 mod lists;
 mod report;
+mod saves;
 mod self_test;
 mod totals;
 
@@ -53,21 +54,24 @@ fn main() -> ExitCode {
 /// Compares every operation. Tells whether all agree.
 fn compare(plan: &Plan) -> io::Result<bool> {
     println!(
-        "seed {}, {} random cases each, {} of lists",
+        "seed {}, {} random cases each, {} of lists, {} of saves",
         plan.seed,
         plan.count,
-        plan.count / lists::RANDOM_SHARE
+        plan.count / lists::RANDOM_SHARE,
+        plan.count / saves::RANDOM_SHARE
     );
-    let operations: [&dyn Fn() -> io::Result<report::Report>; 3] = [
-        &|| grow::compare(plan, mopsienna_sys::grow),
-        &|| Ok(totals::compare(plan, mopsienna_sys::total)),
-        &|| lists::compare(plan, mopsienna_sys::read_list),
+    let operations: [&dyn Fn() -> io::Result<Vec<report::Report>>; 4] = [
+        &|| Ok(vec![grow::compare(plan, mopsienna_sys::grow)?]),
+        &|| Ok(vec![totals::compare(plan, mopsienna_sys::total)]),
+        &|| Ok(vec![lists::compare(plan, mopsienna_sys::read_list)?]),
+        &|| Ok(saves::compare(plan, &saves::Linked)?.into()),
     ];
     let mut agreed = true;
     for operation in operations {
-        let report = operation()?;
-        println!("{report}");
-        agreed &= report.agrees();
+        for report in operation()? {
+            println!("{report}");
+            agreed &= report.agrees();
+        }
     }
     Ok(agreed)
 }

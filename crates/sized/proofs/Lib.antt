@@ -1,0 +1,2 @@
+-- Laws about the definitions of this crate.
+pub mod SizesLaws

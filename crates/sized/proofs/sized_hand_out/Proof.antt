@@ -1,0 +1,24 @@
+-- `sized_hand_out` meets its contract: the size is tested, and then the operation is called.
+-- Assumes nothing.
+use mathlib.Core.Path.{refl, sym, _∙_}
+use borrow.Author.Tests.{not-true, not-false}
+use Rattle.sized.proofs.SizesLaws.{is-page-size, clash}
+use borrow.Author.Needs.{needs}
+use Rattle.sized.proofs.sized_hand_out.Statement.{statement}
+use Rattle.sized.proofs.sized_hand_out.Tie as tie
+
+is-page-size-requires : tie.Need-is-page-size-requires
+is-page-size-requires c κs = search needs
+
+returns : tie.Need-returns
+returns c = (λ e. absurd (clash e (sym (c .before .is-page-size .ensures) ∙ not-true _ (c .if1 .taken))), λ e. (refl, refl))
+
+hand-out-requires : tie.Need-hand-out-requires
+hand-out-requires c κs = is-page-size _ (sym (c .before .before .is-page-size .ensures) ∙ not-false _ (c .before .if1 .left))
+
+returns-2 : tie.Need-returns-2
+returns-2 c = (λ e. c .hand-out .ensures, λ e. absurd (clash (sym (c .before .before .before .is-page-size .ensures) ∙ not-false _ (c .before .before .if1 .left)) e))
+
+pub sized-hand-out-spec : {M : Type 1} → statement M
+sized-hand-out-spec =
+    tie.close (tie.spec is-page-size-requires returns hand-out-requires returns-2)

@@ -1,0 +1,2 @@
+-- The page sizes that the tests ask for.
+pub mod Sizes

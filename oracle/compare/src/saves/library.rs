@@ -1,0 +1,60 @@
+//! The library's functions of lists and saves, with and without a page size.
+
+use mopsienna_sys::{self as linked, sized, Lent, Reply, Save};
+
+/// Which of the library's functions are called.
+#[derive(Clone, Copy, PartialEq)]
+pub enum Form {
+    /// Those of libmopsienna, whose page size is 4,096.
+    Fixed,
+    /// Those that take the page size with each call.
+    Sized(u64),
+}
+
+pub trait Library {
+    fn read_list(
+        &self,
+        form: Form,
+        store: &[u8],
+        head: u32,
+        pages: &mut [u32],
+        entries: &mut [u32],
+    ) -> Reply;
+
+    fn hand_out(&self, form: Form, save: &Save, pages: &[u32], entries: &[u32]) -> Reply;
+
+    fn finish(&self, form: Form, save: &Save, freed: &[u32], lent: &mut Lent) -> Reply;
+}
+
+/// The library as it is.
+pub struct Linked;
+
+impl Library for Linked {
+    fn read_list(
+        &self,
+        form: Form,
+        store: &[u8],
+        head: u32,
+        pages: &mut [u32],
+        entries: &mut [u32],
+    ) -> Reply {
+        match form {
+            Form::Fixed => linked::read_list(store, head, pages, entries),
+            Form::Sized(size) => sized::read_list(size, store, head, pages, entries),
+        }
+    }
+
+    fn hand_out(&self, form: Form, save: &Save, pages: &[u32], entries: &[u32]) -> Reply {
+        match form {
+            Form::Fixed => linked::hand_out(save, pages, entries),
+            Form::Sized(size) => sized::hand_out(size, save, pages, entries),
+        }
+    }
+
+    fn finish(&self, form: Form, save: &Save, freed: &[u32], lent: &mut Lent) -> Reply {
+        match form {
+            Form::Fixed => linked::finish(save, freed, lent),
+            Form::Sized(size) => sized::finish(size, save, freed, lent),
+        }
+    }
+}
