@@ -7,7 +7,7 @@ export NOMT_SRC
 LIB := target/staticlib/libmopsienna.a
 ORACLE := cargo run --quiet --release --manifest-path oracle/Cargo.toml
 
-.PHONY: run test lib interface stack compare bench times
+.PHONY: run test lib sized interface stack compare bench times
 
 # Builds the sizing program and runs it: on standard input, or on a sample where that is a terminal.
 run:
@@ -15,7 +15,7 @@ run:
 	@if [ -t 0 ]; then printf '1\n61381\n0\n7a\n' | target/bin/sizing; else target/bin/sizing; fi
 
 # Everything that a change must pass. The gate comes last, and proves all from nothing.
-test: interface stack
+test: interface stack sized
 	@if [ -d "$(NOMT_SRC)" ]; then $(ORACLE) -p compare -- --short; \
 	else echo "comparison with the Rust: skipped, there is no $(NOMT_SRC)"; fi
 	@rt ci
@@ -24,22 +24,26 @@ test: interface stack
 lib:
 	@rt staticlib mopsienna >/dev/null || { rt staticlib mopsienna; exit 1; }
 
+# The list operations at any page size, for the comparison.
+sized:
+	@rt staticlib sized >/dev/null || { rt staticlib sized; exit 1; }
+
 # The C interface as a C program uses it, through the header.
 interface: lib
 	@cc -std=c11 -Wall -Wextra -Werror -O1 -Iinclude -o target/interface tests/interface.c $(LIB)
 	@target/interface
 
-# Long lists under a small stack.
+# Long lists and large saves under a small stack.
 stack: lib
 	@cc -std=c11 -Wall -Wextra -Werror -O1 -pthread -Iinclude -o target/stack tests/stack.c $(LIB)
 	@target/stack
 
 # The library beside the Rust, at length.
-compare: lib
+compare: lib sized
 	@$(ORACLE) -p compare -- $(ARGS)
 
 # The library and the Rust, timed in turn.
-bench: lib
+bench: lib sized
 	@$(ORACLE) -p bench -- $(ARGS)
 
 # How long each crate's check takes, from nothing.

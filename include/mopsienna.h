@@ -28,12 +28,15 @@ extern "C" {
 
 /* Refusals. The numbers are fixed; each function names those that it returns. */
 enum {
+    MOPSIENNA_STATE = 1,     /* an open save that cannot stand */
     MOPSIENNA_LIST_PAGE = 2, /* a list page number at or past the store's page count */
     MOPSIENNA_COUNT = 3,     /* the count on a list page does not fit its place */
     MOPSIENNA_ENTRY = 4,     /* a list entry is 0 or at or past the page count */
     MOPSIENNA_CHAIN = 5,     /* a list that has not ended after as many pages as the store has */
     MOPSIENNA_TABLES = 6,    /* list tables shorter than the list */
     MOPSIENNA_LIMIT = 7,     /* a number or a bump above its limit */
+    MOPSIENNA_FREED = 8,     /* a freed number that is 0 or not below the bump */
+    MOPSIENNA_BUFFER = 9,    /* a page buffer or number list that is too short */
     MOPSIENNA_SIZE = 10      /* a size of 0, or above 2^29 */
 };
 
@@ -78,6 +81,65 @@ uint32_t mopsienna_grow(uint32_t page, uint64_t out[8]);
 uint32_t mopsienna_read_list(const uint8_t *store, size_t store_len, uint32_t head, uint32_t *pages,
                              size_t pages_len, uint32_t *entries, size_t entries_len,
                              uint64_t out[8]);
+
+/*
+ * The next two functions work on an open save. It is
+ *
+ *   bump     the next page number past the store, 1 to MOPSIENNA_MAX_BUMP
+ *   length   the store's recorded length, in pages
+ *   P, L     the pages and the entries of the list, as mopsienna_read_list or the last
+ *            mopsienna_finish left them in the tables `pages` and `entries`
+ *   count    how many numbers this save was handed out: 0 at its start
+ *
+ * No list of L entries has fewer than L / 1,022 pages, rounded up, or more than L / 1,022 + 1,
+ * rounded down; one of none has no page. A save that is not so, whose bump is 0 or too large, or
+ * whose tables are shorter than P or L, gets refusal 1.
+ */
+
+/*
+ * Hands out a page number: the entries of the list from its end, then the numbers from the bump up.
+ *
+ *   out[0]  the number
+ *   out[1]  the new count
+ *   out[2]  the recorded length, grown as mopsienna_grow says if a number past the list is not below it
+ *
+ * Refusals: 1 for the save, 7 for a number that is not below MOPSIENNA_MAX_BUMP. After them the save
+ * is as it was.
+ */
+uint32_t mopsienna_hand_out(uint32_t bump, uint32_t length, uint64_t P, uint64_t L, uint64_t count,
+                            const uint32_t *pages, size_t pages_len, const uint32_t *entries,
+                            size_t entries_len, uint64_t out[8]);
+
+/*
+ * Finishes a save with the numbers that it frees: the new list goes into the tables, the pages of it
+ * that are to be written into `buffer`, 4,096 bytes each, and their page numbers into `numbers`.
+ *
+ *   out[0]  the new head, 0 if the list has no page
+ *   out[1]  the new bump
+ *   out[2]  the recorded length, grown as mopsienna_grow says if it is below the new bump
+ *   out[3]  P, and pages[0 .. P] hold the new list's page numbers
+ *   out[4]  L, and entries[0 .. L] hold its entries
+ *   out[5]  how many pages are to be written: they fill buffer and numbers from the front
+ *
+ * All other places stay as they were, and after a refusal all places do. If nothing was handed out
+ * from the list and nothing is freed, the list stays and no page is written.
+ *
+ * No page is written that the list before the save needs, except one that is written with the bytes
+ * it has. So the old head and the old recorded length are good until the new head is recorded.
+ *
+ * Refusals, in this order:
+ *   1  the save
+ *   7  the new bump would be above MOPSIENNA_MAX_BUMP
+ *   8  a freed number is 0 or not below the bump after the numbers handed out; out[0] is the place
+ *      of the first such number
+ *   6  a table is shorter than the new list
+ *   9  `buffer` or `numbers` is shorter than the pages to be written
+ */
+uint32_t mopsienna_finish(uint32_t bump, uint32_t length, uint64_t P, uint64_t L, uint64_t count,
+                          uint32_t *pages, size_t pages_len, uint32_t *entries, size_t entries_len,
+                          const uint32_t *freed, size_t freed_len, uint8_t *buffer,
+                          size_t buffer_len, uint32_t *numbers, size_t numbers_len,
+                          uint64_t out[8]);
 
 /*
  * How many overflow pages a value of `size` bytes takes.

@@ -1,11 +1,12 @@
-/* Reads long lists in a thread with a small stack: the stack that a call takes must not grow with
- * the list or the store. */
+/* Reads long lists and finishes large saves in a thread with a small stack: the stack that a call
+ * takes must not grow with the list, the store or the freed numbers. */
 #define _DEFAULT_SOURCE
 #include "mopsienna.h"
 
 #include <pthread.h>
 #include <stdio.h>
 #include <stdlib.h>
+#include <string.h>
 #include <sys/mman.h>
 
 #define STACK (256 * 1024)
@@ -127,9 +128,66 @@ static void long_list(void) {
     munmap(store, pages * PAGE);
 }
 
+/* Page j of the new list is what the list tables say. */
+static int page_is(const uint8_t *b, const uint32_t *pages, const uint32_t *entries, uint64_t listed,
+                   uint64_t j) {
+    uint8_t page[PAGE] = {0};
+    uint64_t count = listed - j * FULL < FULL ? listed - j * FULL : FULL;
+    put(page, 4, j == 0 ? 0 : pages[j - 1]);
+    put(page + 4, 2, (uint32_t)count);
+    for (uint64_t i = 0; i < count; i++)
+        put(page + 6 + 4 * i, 4, entries[j * FULL + i]);
+    return memcmp(page, b, PAGE) == 0;
+}
+
+/* A save that frees ten million numbers, on a list of so many full pages. */
+static void large_save(const char *call, uint32_t list) {
+    const uint32_t freed_count = 10000000;
+    const uint32_t room = list + 10000;
+    const size_t listed = (size_t)list * FULL;
+    uint32_t *pages = new_table(room);
+    uint32_t *entries = new_table(listed + freed_count + room);
+    uint32_t *freed = new_table(freed_count);
+    uint32_t *numbers = new_table(room);
+    uint8_t *buffer = new_store(room);
+    uint64_t out[8];
+    /* The entries, the pages and the freed numbers, one after another from 1 up. */
+    uint32_t next = 1;
+    for (size_t i = 0; i < listed; i++)
+        entries[i] = next++;
+    for (uint32_t p = 0; p < list; p++)
+        pages[p] = next++;
+    for (uint32_t i = 0; i < freed_count; i++)
+        freed[i] = next++;
+    fill(out);
+
+    uint32_t got = mopsienna_finish(next, 8192, list, listed, 0, pages, room, entries,
+                                    listed + freed_count + room, freed, freed_count, buffer,
+                                    (size_t)room * PAGE, numbers, room, out);
+
+    /* Nothing was handed out: what the list holds is what it held, what was freed, and what the bump gave. */
+    int right = got == 0 && untouched(out, 6) && out[0] == pages[out[3] - 1] &&
+                out[3] + out[4] == list + listed + freed_count + (out[1] - next) &&
+                (out[3] - 1) * FULL <= out[4] && out[4] <= out[3] * FULL;
+    uint64_t first = out[3] - out[5];
+    for (uint64_t j = 0; right && j < out[5]; j++)
+        right = numbers[j] == pages[first + j] &&
+                page_is(buffer + j * PAGE, pages, entries, out[4], first + j);
+    right = right && pages[out[3]] == UNTOUCHED && entries[out[4]] == UNTOUCHED &&
+            numbers[out[5]] == UNTOUCHED && buffer[out[5] * PAGE] == 0;
+    expect(call, right);
+    free(numbers);
+    free(freed);
+    free(entries);
+    free(pages);
+    munmap(buffer, (size_t)room * PAGE);
+}
+
 static void *run(void *unused) {
     endless();
     long_list();
+    large_save("ten million freed, no list", 0);
+    large_save("ten million freed, a list of 3,000 full pages", 3000);
     return unused;
 }
 
