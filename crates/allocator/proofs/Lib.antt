@@ -12,5 +12,6 @@ pub mod SomeLaws
 pub mod NewShapeLaws
 pub mod KeptPageLaws
 pub mod ReadBackLaws
+pub mod WrittenLaws
 pub mod ChangedLaws
 pub mod SameLaws

@@ -284,7 +284,7 @@ module _ (s : ℕ) (store : List ℕ) (m : FreeList) (two : 2 ≤ capacity s) (h
 
 -- ---- counting the numbers of a list
 
-mem-count : (x : ℕ) (ns : List ℕ) → List·Memᴰ x ns → 1 ≤ count x ns
+pub mem-count : (x : ℕ) (ns : List ℕ) → List·Memᴰ x ns → 1 ≤ count x ns
 unfolding count
 mem-count x [] m = absurd (List·Memᴰ·not-nil m)
 mem-count x (n ∷ ns) m = go (List·Memᴰ·cases-cons m) (mem-count x ns)
