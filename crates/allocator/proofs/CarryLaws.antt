@@ -1,21 +1,20 @@
 -- A plan that has room, in the numbers of the code: what is read and written stays in bounds, and the parts make the new list.
-use Prim.Native.Nat.{ℕ, zero, suc, _+_, _*_, _-_, _<_, _≤_}
+use Prim.Native.Nat.{ℕ, zero, suc, _+_, _*_, _-_, _≤_}
 use native.Mathlib.Nat.{mul-suc, mul-zero, zero-sub, mul-add}
 use native.Mathlib.Omega.{arith}
-use mathlib.Core.Path.{_≡_, refl, ap, ap₂, sym, _∙_, subst₃}
+use mathlib.Core.Path.{_≡_, ap, ap₂, sym, _∙_, subst₃}
 use mathlib.Core.Logic.{_⊎_, inl, inr}
-use mathlib.Core.Bool.{Bool, true, false, _&&_, _||_}
+use mathlib.Core.Bool.{Bool, true, _&&_}
 use mathlib.Core.List.{List, map}
 use lib.Dec.{leb, eqb}
-use lib.ListN.{length, take, drop}
-use lib.Seq.{sets, length-sets, length-take-le}
+use lib.ListN.{length, take}
+use lib.Seq.{sets, length-take-le}
 use borrow.Author.Tests.{leb-true, eqb-true}
 use Rattle.refusal.proofs.Cases.{and-true, or-true}
 use Rattle.page.specs.PageSize.{capacity}
 use Rattle.page.specs.Pages.{Write}
-use Rattle.free_list.specs.Shape.{FreeList, isShape, isFragmented}
-use Rattle.preallocate.specs.Plan.{Plan, room, planOf}
-use Rattle.preallocate.specs.Counts.{counts}
+use Rattle.free_list.specs.Shape.{isShape, isFragmented}
+use Rattle.preallocate.specs.Plan.{room}
 use Rattle.preallocate.specs.declared.turns.Plan.{Plan as Counts}
 use Rattle.preallocate.proofs.PlanLaws.{plan-enough, plan-tight, plan-kept, plan-left, plan-fits}
 use Rattle.allocator.specs.Finish.{newList, encodedPages, bytesOfPages, carriedOut}

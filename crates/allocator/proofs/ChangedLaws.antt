@@ -1,30 +1,27 @@
 -- A finish with something popped or freed: what the plan's numbers say of it.
-use Prim.Native.Nat.{ℕ, _+_, _*_, _-_, _/_, _^_, min, _<_, _≤_}
-use native.Mathlib.Nat.{div-mul-le-self, mul-le-mul-left, mul-le-mul-right, lt-div-mul-add, mul-comm}
+use Prim.Native.Nat.{ℕ, _+_, _*_, _-_, _/_, _<_, _≤_}
+use native.Mathlib.Nat.{div-mul-le-self, mul-le-mul-left, mul-le-mul-right, lt-div-mul-add}
 use native.Mathlib.Omega.{arith}
-use mathlib.Core.Path.{_≡_, refl, ap, sym, subst, _∙_}
-use mathlib.Core.Bool.{true, false, _&&_, cond}
+use mathlib.Core.Path.{_≡_, ap, sym, _∙_}
+use mathlib.Core.Bool.{cond}
 use mathlib.Core.List.{List, [], _∷_, map}
-use lib.Dec.{eqb, ltb}
+use lib.Dec.{ltb}
 use lib.ListN.{length, getD, take}
-use lib.Seq.{sets, length-take-le, getD-take}
-use borrow.Author.Tests.{eqb-true, eqb-false}
+use lib.Seq.{sets, length-take-le}
 use Rattle.refusal.specs.Outcome.{answer}
 use Rattle.page.specs.PageSize.{PageSize, capacity}
 use Rattle.page.proofs.PageSizeLaws.{page-least}
 use Rattle.page.specs.Pages.{Write}
 use Rattle.page.specs.Growth.{maxBump, grown}
-use Rattle.free_list.specs.Shape.{isShape}
 use Rattle.preallocate.specs.Counts.{counts, Planable}
 use Rattle.preallocate.specs.declared.turns.Plan.{Plan as Counts}
-use Rattle.preallocate.proofs.PlanLaws.{plan-bump}
-use Rattle.allocator.specs.OpenSave.{Save, listOf, bumped, stateFits}
-use Rattle.allocator.specs.Finish.{FinishAnswer, firstBad, headOf, carriedOut, finished, finishAnswer, finishInto, bytesOfPages}
+use Rattle.allocator.specs.OpenSave.{Save, listOf, bumped}
+use Rattle.allocator.specs.Finish.{firstBad, headOf, carriedOut, finished, finishAnswer, finishInto, bytesOfPages}
 use Rattle.allocator.specs.Steps.{planIn, carriedIn, Planned, Writable, Changed}
-use Rattle.allocator.proofs.SaveLaws.{Stands, stands}
+use Rattle.allocator.proofs.SaveLaws.{stands}
 use Rattle.allocator.proofs.SomeLaws.{plan-some}
 use Rattle.allocator.proofs.NewListLaws.{take-sets}
-use Rattle.allocator.proofs.FinishLaws.{effect, refusedAs, refused-limit, refused-freed, refused-pages, refused-entries, refused-bytes, refused-numbers, finish-done, finished-same, finished-changed}
+use Rattle.allocator.proofs.FinishLaws.{effect, refusedAs, refused-limit, refused-freed, refused-pages, refused-entries, refused-bytes, refused-numbers, finish-done, finished-changed}
 use Rattle.allocator.proofs.CarryLaws.{bounds, pages-count, entries-count, written-count}
 
 pub capacity-fits : {s : ℕ} → PageSize s → capacity s ≤ 16384

@@ -1,17 +1,14 @@
 -- Encoding the pages of a list that two tables hold: page by page, one behind the other.
 use Prim.Native.Nat.{ℕ, zero, suc, _+_, _*_, _-_, _<_, _≤_}
-use native.Mathlib.Nat.{zero-add, add-zero, add-suc, suc-add, mul-zero, mul-suc, mul-comm}
-use native.Mathlib.Numerals.{add-one}
+use native.Mathlib.Nat.{zero-add, add-zero, add-suc, suc-add, mul-zero, mul-suc}
 use native.Mathlib.Omega.{arith}
-use mathlib.Core.Path.{_≡_, refl, ap, ap₂, sym, _∙_}
-use mathlib.Core.Bool.{true, false, cond}
+use mathlib.Core.Path.{_≡_, refl, ap, _∙_}
+use mathlib.Core.Bool.{cond}
 use mathlib.Core.List.{List, [], _∷_, _++_, append-nil, append-assoc}
 use lib.Dec.{eqb}
-use lib.ListN.{length, getD, take, drop, length-append, length-take, length-drop}
-use lib.Seq.{sets, sets-eq, length-take-le, getD-take, getD-drop, take-take, ext-getD}
-use borrow.Author.Tests.{eq-eqb, ne-eqb}
-use Rattle.refusal.proofs.Cases.{cond-cases}
-use Rattle.page.specs.PageSize.{PageSize, capacity}
+use lib.ListN.{length, take, drop, length-append, length-take}
+use lib.Seq.{sets, length-take-le, getD-take, take-take}
+use Rattle.page.specs.PageSize.{capacity}
 use Rattle.page.specs.Pages.{Write}
 use Rattle.page.proofs.PageSizeLaws.{page-least}
 use Rattle.page.proofs.SetsLaws.{sets-append}

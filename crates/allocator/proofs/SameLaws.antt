@@ -1,10 +1,10 @@
 -- A finish of a save in which nothing was popped and nothing freed, and the bump that every finish has at least.
-use Prim.Native.Nat.{ℕ, zero, suc, _+_, _*_, _-_, min, _≤_}
+use Prim.Native.Nat.{ℕ, _-_, min, _≤_}
 use native.Mathlib.Nat.{mul-zero}
 use native.Mathlib.Omega.{arith}
-use mathlib.Core.Path.{_≡_, refl, ap, sym, subst, _∙_}
-use mathlib.Core.Bool.{true, false, _&&_, cond}
-use mathlib.Core.List.{List, [], _∷_, _++_, append-nil}
+use mathlib.Core.Path.{_≡_, refl, ap, sym, _∙_}
+use mathlib.Core.Bool.{true, _&&_, cond}
+use mathlib.Core.List.{List, [], _∷_, append-nil}
 use lib.Dec.{eqb, ltb}
 use lib.ListN.{length, getD, take}
 use lib.Seq.{sets, length-take-le}

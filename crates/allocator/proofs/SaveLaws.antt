@@ -1,5 +1,5 @@
 -- The state of an open save: the shape by division, and what a state that stands has.
-use Prim.Native.Nat.{ℕ, suc, _+_, _*_, _-_, _/_, _<_, _≤_}
+use Prim.Native.Nat.{ℕ, suc, _*_, _-_, _/_, _<_, _≤_}
 use native.Mathlib.Nat.{mul-comm, mul-le-mul-left, lt-div-mul-add, div-mul-le-self, le-div-iff-mul-le}
 use native.Mathlib.Omega.{arith}
 use mathlib.Core.Path.{_≡_, refl, sym, _∙_}
@@ -8,12 +8,12 @@ use mathlib.Core.List.{[]}
 use lib.Dec.{leb, ltb, eqb}
 use borrow.Author.Tests.{le-leb, lt-leb, leb-true, ne-eqb, lt-ltb, le-ltb}
 use lib.ListN.{length, getD}
-use Rattle.refusal.specs.Outcome.{Outcome, answer, refused}
+use Rattle.refusal.specs.Outcome.{answer, refused}
 use Rattle.refusal.proofs.Cases.{and-true}
 use Rattle.page.specs.PageSize.{capacity}
 use Rattle.page.specs.Growth.{maxBump, grown}
 use Rattle.free_list.specs.Shape.{isShape}
-use Rattle.allocator.specs.OpenSave.{Save, HandedOut, stateFits, bumped, nextNumber, nextRecorded, handOut}
+use Rattle.allocator.specs.OpenSave.{Save, stateFits, bumped, nextNumber, nextRecorded, handOut}
 
 -- two tests that hold together are equal
 same-test : (a b : Bool) → (a ≡ true → b ≡ true) → (b ≡ true → a ≡ true) → a ≡ b

@@ -1,15 +1,15 @@
 -- The steps of the loops over the tables.
-use Prim.Native.Nat.{ℕ, zero, suc, _+_, _-_, _<_, _≤_}
-use native.Mathlib.Nat.{add-zero, add-suc, sub-self, not-suc-le-zero}
+use Prim.Native.Nat.{ℕ, suc, _+_, _-_, _<_, _≤_}
+use native.Mathlib.Nat.{add-zero, not-suc-le-zero}
 use native.Mathlib.Numerals.{add-one}
 use native.Mathlib.Omega.{arith}
-use mathlib.Core.Path.{_≡_, refl, ap, sym, _∙_}
+use mathlib.Core.Path.{_≡_, ap, sym, _∙_}
 use mathlib.Core.Bool.{Bool, true, false, _&&_}
-use mathlib.Core.List.{List, [], _∷_, _++_, reverse, reverse-cons}
-use lib.Dec.{leb, ltb}
+use mathlib.Core.List.{List, [], _∷_, reverse, reverse-cons}
+use lib.Dec.{leb}
 use lib.ListN.{length, getD, take, drop, set, length-take, length-drop, length-reverse, drop-of-length-le}
 use lib.Seq.{sets, take-suc, take-length, drop-cons, length-take-le, length-sets, getD-take}
-use borrow.Author.Tests.{le-leb, lt-leb, lt-ltb, le-ltb}
+use borrow.Author.Tests.{le-leb, lt-ltb, le-ltb}
 use Rattle.page.proofs.SetsLaws.{sets-append, sets-snoc, sets-swapped}
 use Rattle.allocator.specs.Finish.{firstBad}
 use Rattle.allocator.specs.Steps.{swapIf, pushList}

@@ -4,7 +4,6 @@ ghost use Prim.Native.Nat.{_*_, _-_, _≤_, _<_};
 ghost use lib.ListN.{length};
 ghost use lib.Seq.{sets};
 ghost use Rattle.free_list.specs.Shape.{isFragmented, entriesBelow};
-ghost use Rattle.page.specs.PageSize.{capacity};
 ghost use Rattle.allocator.specs.Finish.{encodedPage, encodedPages, bytesOfPages};
 ghost use Rattle.allocator.specs.Steps.{Listed, tableList, previous};
 use free_list::list_page::encode_free_list_page;

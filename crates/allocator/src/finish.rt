@@ -2,18 +2,17 @@
 //
 // First everything is planned in numbers and may be refused; then it is written, which cannot fail.
 ghost use mathlib.Core.Path.{_≡_};
-ghost use mathlib.Core.Bool.{true, false, _&&_, cond};
+ghost use mathlib.Core.Bool.{false, _&&_, cond};
 ghost use mathlib.Core.List.{map};
 ghost use Prim.Native.Nat.{_+_, _*_, _-_, min, _≤_, _<_};
 ghost use lib.Dec.{eqb, ltb};
 ghost use lib.ListN.{length, getD, take};
 ghost use lib.Seq.{sets};
-ghost use Rattle.page.specs.PageSize.{PageSize, pageSize, capacity};
+ghost use Rattle.page.specs.PageSize.{PageSize, pageSize};
 ghost use Rattle.page.specs.Pages.{Write};
 ghost use Rattle.page.specs.Growth.{maxBump, grown};
 ghost use Rattle.free_list.specs.Shape.{isFragmented};
 ghost use Rattle.preallocate.specs.Counts.{counts, Planable};
-ghost use Rattle.allocator.specs.OpenSave.{stateFits, bumped};
 ghost use Rattle.allocator.specs.Finish.{FinishEffect, finishInto, bytesOfPages};
 ghost use Rattle.allocator.specs.Answers.{saveOf, finishOutcome};
 ghost use Rattle.allocator.specs.Steps.{newNumbers, planIn, carriedIn, Writable, Changed};

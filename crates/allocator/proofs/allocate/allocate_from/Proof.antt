@@ -1,7 +1,7 @@
 -- `allocate_from` meets its contract: its tests are the definition's, in order; the state bounds what is read and added.
 -- Assumes nothing.
-use Prim.Native.Nat.{ℕ, _+_, _-_, suc}
-use mathlib.Core.Path.{_≡_, refl, sym, ap, _∙_}
+use Prim.Native.Nat.{_+_, _-_, suc}
+use mathlib.Core.Path.{_≡_, sym, _∙_}
 use native.Mathlib.Numerals.{add-one}
 use native.Mathlib.Omega.{arith}
 use borrow.Author.Tests.{not-true, not-false}

@@ -1,7 +1,7 @@
 -- `encode_pages` meets its contract. The loop's invariant: the pages from `first` up to page j stand in the buffer, one behind the
 -- other. Assumes nothing.
 use Prim.Native.Nat.{ℕ, suc, _+_, _*_, _-_, _≤_, _<_}
-use mathlib.Core.Path.{_≡_, refl, ap, sym, _∙_}
+use mathlib.Core.Path.{_≡_, refl, ap, _∙_}
 use mathlib.Core.List.{List}
 use native.Mathlib.Nat.{sub-self, mul-zero, mul-suc, mul-le-mul-left}
 use native.Mathlib.Omega.{arith}

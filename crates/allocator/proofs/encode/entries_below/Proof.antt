@@ -1,7 +1,7 @@
 -- `entries_below` meets its contract: each place of the definition is a test here.
 -- Assumes nothing.
-use Prim.Native.Nat.{_+_, _*_, _-_, _≤_}
-use mathlib.Core.Path.{_≡_, sym, _∙_}
+use Prim.Native.Nat.{_-_, _≤_}
+use mathlib.Core.Path.{sym, _∙_}
 use native.Mathlib.Nat.{mul-le-mul-left}
 use native.Mathlib.Omega.{arith}
 use Rattle.free_list.proofs.BelowLaws.{below-all, below-inner, below-fragmented, below-head}

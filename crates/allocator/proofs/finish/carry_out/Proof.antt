@@ -1,11 +1,10 @@
 -- `carry_out` meets its contract: the parts make the new list, and the pages are encoded from it.
 -- Assumes nothing.
-use Prim.Native.Nat.{ℕ, _+_, _*_, _-_, _≤_}
+use Prim.Native.Nat.{ℕ}
 use mathlib.Core.Path.{_≡_, refl, ap, sym, _∙_}
 use mathlib.Core.Bool.{Bool, _&&_}
 use native.Mathlib.Omega.{arith}
 use lib.Dec.{eqb}
-use lib.ListN.{length}
 use Rattle.page.specs.PageSize.{capacity}
 use Rattle.free_list.specs.Shape.{isFragmented}
 use Rattle.allocator.proofs.CarryLaws.{shape-bounds, bounds, mended-two, carried-numbers, carried-entries, carried-pages, carried-buffer, tables-listed}

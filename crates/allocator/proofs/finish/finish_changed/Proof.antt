@@ -1,13 +1,7 @@
 -- `finish_changed` meets its contract: the tests are the definition's, on the plan's numbers; then the plan is carried out.
 -- Assumes nothing.
-use Prim.Native.Nat.{ℕ, _+_, _-_}
-use mathlib.Core.Path.{_≡_, refl, sym, ap, _∙_}
 use native.Mathlib.Omega.{arith}
-use Rattle.page.specs.PageSize.{capacity}
 use Rattle.page.proofs.PageSizeLaws.{page-least}
-use Rattle.preallocate.specs.Counts.{counts}
-use Rattle.preallocate.specs.declared.turns.Plan.{Plan}
-use Rattle.allocator.specs.Steps.{planIn}
 use Rattle.allocator.proofs.ChangedLaws.{planable, count-small, listed-small, changed-limit, changed-bad, changed-pages, changed-entries, changed-bytes, changed-numbers, changed-writable, changed-done}
 use borrow.Author.Needs.{needs}
 use Rattle.allocator.proofs.finish.finish_changed.Statement.{statement}

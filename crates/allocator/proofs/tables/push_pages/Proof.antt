@@ -1,6 +1,6 @@
 -- `push_pages` meets its contract. The loop's invariant: the table holds the numbers from the top down to `page`.
 -- Assumes nothing.
-use Prim.Native.Nat.{_+_, _-_, _≤_, _<_}
+use Prim.Native.Nat.{_+_, _≤_, _<_}
 use mathlib.Core.Path.{_≡_, refl, ap, _∙_}
 use mathlib.Core.List.{reverse}
 use native.Mathlib.Omega.{arith}

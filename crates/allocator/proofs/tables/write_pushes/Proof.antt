@@ -1,6 +1,5 @@
 -- `write_pushes` meets its contract: the freed numbers, the pages behind them, and the first two of these in turn where asked.
 -- Assumes nothing.
-use Prim.Native.Nat.{_+_, _-_, _≤_}
 use mathlib.Core.Path.{_≡_}
 use native.Mathlib.Omega.{arith}
 use lib.ListN.{length, take}
