@@ -1,5 +1,6 @@
-/* Reads long lists and finishes large saves in a thread with a small stack: the stack that a call
- * takes must not grow with the list, the store or the freed numbers. */
+/* Reads long lists and finishes large saves in a thread with a small stack. The stack that a reading
+ * takes must not grow with the list or the store; a finish nests a call for each list page that it
+ * uses up, of which there is one to about a million freed numbers. */
 #define _DEFAULT_SOURCE
 #include "mopsienna.h"
 

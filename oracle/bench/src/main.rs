@@ -1,6 +1,7 @@
 //! Times libmopsienna beside the Rust, one operation after another.
 
 mod lists;
+mod saves;
 mod timing;
 
 use std::{env, io, process::ExitCode};
@@ -31,7 +32,7 @@ fn main() -> ExitCode {
 }
 
 fn run(mode: Mode) -> io::Result<()> {
-    let operations: [&dyn Fn() -> io::Result<Vec<Row>>; 1] = [&lists::rows];
+    let operations: [&dyn Fn() -> io::Result<Vec<Row>>; 2] = [&lists::rows, &saves::rows];
     if let Mode::Compare { .. } = mode {
         println!("{}", timing::HEADING);
     }

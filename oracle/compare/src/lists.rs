@@ -11,7 +11,10 @@ mod model;
 mod random;
 mod rust;
 
-use crate::{report::Report, Plan};
+use crate::{
+    report::{difference, Report},
+    Plan,
+};
 use case::Case;
 use common::lists::Portions;
 use mopsienna_sys::Reply;
@@ -201,15 +204,4 @@ fn table_lengths(case: &Case, model: &Result<Portions, Reply>) -> Vec<(usize, us
 fn size(list: &Portions) -> (usize, usize) {
     let entries = list.iter().map(|(_, entries)| entries.len()).sum();
     (list.len(), entries)
-}
-
-/// Tells of the first place at which two tables differ.
-fn difference(table: &str, expected: &[u32], got: &[u32]) -> String {
-    match (0..got.len()).find(|place| expected[*place] != got[*place]) {
-        Some(place) => format!(
-            ", {table}[{place}] expected {}, got {}",
-            expected[place], got[place]
-        ),
-        None => String::new(),
-    }
 }

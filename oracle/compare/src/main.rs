@@ -14,9 +14,9 @@ use std::{env, io, process::ExitCode};
 
 const USAGE: &str = "\
 usage: compare [--short] [--seed N] [--count N] [--self-test]
-  --short      about a second instead of about a minute
+  --short      some seconds instead of some minutes
   --seed N     the seed of the random cases
-  --count N    random cases for each operation, a twentieth of that for lists
+  --count N    random cases for each operation, a twentieth of that for lists and a tenth for saves
   --self-test  see whether wrong replies are caught, over the short form";
 
 /// What is to be compared.

@@ -84,3 +84,14 @@ impl fmt::Display for Report {
         Ok(())
     }
 }
+
+/// Tells of the first place at which two tables differ.
+pub fn difference<T: PartialEq + fmt::Display>(table: &str, expected: &[T], got: &[T]) -> String {
+    match (0..got.len()).find(|place| expected[*place] != got[*place]) {
+        Some(place) => format!(
+            ", {table}[{place}] expected {}, got {}",
+            expected[place], got[place]
+        ),
+        None => String::new(),
+    }
+}

@@ -163,8 +163,13 @@ pub fn read_list(store: &[u8], head: u32, pages: &mut [u32], entries: &mut [u32]
 
 /// Hands out the next number. Answers it, the count after it and the recorded length after it.
 pub fn hand_out(save: &Save, pages: &[u32], entries: &[u32]) -> Reply {
+    Reply::of(|out| hand_out_into(save, pages, entries, out))
+}
+
+/// The same into places that are there already: 0 or the refusal's number.
+pub fn hand_out_into(save: &Save, pages: &[u32], entries: &[u32], out: &mut Out) -> u32 {
     // SAFETY: the function reads only the tables, and writes only to the eight places of `out`.
-    Reply::of(|out| unsafe {
+    unsafe {
         mopsienna_hand_out(
             save.bump,
             save.length,
@@ -177,7 +182,7 @@ pub fn hand_out(save: &Save, pages: &[u32], entries: &[u32]) -> Reply {
             entries.len(),
             out,
         )
-    })
+    }
 }
 
 /// Finishes the save. Answers the head, the bump, the recorded length, the pages and the entries of

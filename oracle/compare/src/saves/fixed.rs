@@ -1,6 +1,10 @@
 //! The cases of document 01's sample tray, with what it says of them.
 
-use super::{after, open_save, Comparison, Form, FINISH};
+use super::{
+    after,
+    lent::{lent, Room},
+    model, open_save, Comparison, Form, FINISH,
+};
 use common::Random;
 use nomt_plain::{List, Rust, State};
 use std::io;
@@ -86,13 +90,27 @@ fn check<R: Rust>(comparison: &mut Comparison, form: Form, sample: &Sample) -> i
     };
     let rust = R::open(&state)?;
     let count = sample.handed.len();
-    let numbers: io::Result<Vec<u32>> = (0..count)
-        .map(|handed| Ok(R::hand_out(&rust.start(handed))?.0))
-        .collect();
+    let (pages, entries) = model::size(&state.list);
+    let room = Room {
+        pages,
+        entries,
+        bytes: 0,
+        numbers: 0,
+    };
+    let tables = lent(&state.list, room);
+    let mut numbers = vec![];
+    for handed in 0..count {
+        let save = open_save(&state, handed as u64);
+        comparison.hand_out::<R>(form, &save, &tables.pages, &tables.entries, || {
+            let got = R::hand_out(&rust.start(handed))?;
+            numbers.push(got.0);
+            Ok(got)
+        })?;
+    }
     let finished = R::finish(rust.start(count), &sample.freed)?;
     let after = after(&rust, finished);
     let written: Vec<Page> = after.written.iter().map(page).collect();
-    let as_said = numbers? == sample.handed
+    let as_said = numbers == sample.handed
         && written == sample.written
         && after.state.bump == sample.bump_after;
     if !as_said {

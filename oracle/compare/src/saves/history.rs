@@ -1,13 +1,24 @@
 //! Histories: save after save over one store of the Rust, whose list pages are written and read
 //! back after every save.
 
-use super::{after, lent, model, open_save, released, Comparison, Form, Room};
+use super::{
+    after,
+    lent::{lent, Room},
+    model, open_save, released, Comparison, Form,
+};
 use common::{Random, Store};
 use nomt_plain::{List, Rust, State};
 use std::io;
 
 /// How many pages the stores of histories can have.
 const MOST_PAGES: usize = 1 << 23;
+
+/// A history ends when its bump passes this. Small list pages take up numbers so fast that lists
+/// would grow without end, and the library takes some stack for each whole page that comes to the
+/// top.
+const fn most_bump(full: usize) -> u32 {
+    4000 + 400 * full as u32
+}
 
 /// Goes on with further histories until so many saves were made. Later ones are longer.
 pub fn each<R: Rust>(
@@ -27,70 +38,111 @@ pub fn each<R: Rust>(
             list: vec![],
         };
         let mut history = History::<R>::new(form, &state, (1..bump).collect())?;
-        let length = 1 + random.below(2 + 5 * u64::from((made + 1).ilog2()));
-        for _ in 0..length {
-            let (_, entries) = model::size(&history.state.list);
-            let count = any_count(R::CAPACITY, entries, &mut random);
+        let most_saves = 1 + random.below(2 + 5 * u64::from((made + 1).ilog2()));
+        for _ in 0..most_saves {
+            if history.state.bump > most_bump(R::CAPACITY) {
+                break;
+            }
+            let count = any_count(R::CAPACITY, &history.state.list, &mut random);
             history.hand_out(comparison, count)?;
             let freed = any_freed(&history, count, &mut random);
             let freed = history.take_used(freed, &mut random);
             history.finish(comparison, freed, &mut random)?;
+            made += 1;
         }
-        made += length;
     }
     Ok(())
 }
 
-/// A history over a list of more entries than a full page has places for whole pages, in which as
-/// many numbers are freed, so that more pages are needed than the top page has entries.
+/// One save for every shape of a list of up to so many pages, every count of numbers handed out up
+/// to two past the list, and every count of numbers freed up to what so many pages hold.
+pub fn every<R: Rust>(
+    comparison: &mut Comparison,
+    form: Form,
+    most_pages: usize,
+    random: &mut Random,
+) -> io::Result<()> {
+    let full = R::CAPACITY;
+    for pages in 0..=most_pages {
+        for entries in 0..=full * pages {
+            if !model::is_shape(full, pages as u64, entries as u64) {
+                continue;
+            }
+            for count in 0..=entries + 2 {
+                for freed in 0..=full * most_pages {
+                    let state = in_order(&model::counts(full, pages, entries), freed as u32);
+                    let used = (state.bump - freed as u32..state.bump).collect();
+                    let mut history = History::<R>::new(form, &state, used)?;
+                    history.write_list(&state.list);
+                    history.hand_out(comparison, count)?;
+                    let freed = history.used[..freed].to_vec();
+                    history.finish(comparison, freed, random)?;
+                }
+            }
+        }
+    }
+    Ok(())
+}
+
+/// A state with so many entries on each page, from the bottom page up, and so many numbers in use:
+/// each page is followed by its entries, and the numbers in use come last.
+fn in_order(counts: &[usize], used: u32) -> State {
+    let mut numbers = 1..;
+    let mut list: List = vec![];
+    for count in counts {
+        // The range does not end.
+        let page = numbers.next().unwrap();
+        list.push((page, numbers.by_ref().take(*count).collect()));
+    }
+    let bump = numbers.start + used;
+    State {
+        bump,
+        length: bump,
+        list,
+    }
+}
+
+/// A history over a list of more pages than a page has places, in which so many numbers are freed
+/// that more new pages are needed than the top page has entries. With `few` on the top page even
+/// the page under it, which is full, is used up.
 pub fn long<R: Rust>(
     comparison: &mut Comparison,
     form: Form,
+    few: bool,
     random: &mut Random,
 ) -> io::Result<()> {
     let full = R::CAPACITY;
     let list_pages = full + 1 + random.below(4) as usize;
-    let mut numbers = 1..;
-    let mut list: List = vec![];
-    for _ in 0..list_pages {
-        // The range does not end.
-        let page = numbers.next().unwrap();
-        list.push((page, numbers.by_ref().take(full).collect()));
+    let mut counts = vec![full; list_pages];
+    if few {
+        counts[list_pages - 1] = 1 + random.below(8) as usize;
     }
-    if random.below(2) == 0 {
-        let rest = 1 + random.below(full as u64) as usize;
-        list[list_pages - 1].1.truncate(rest);
-    }
-    let used: Vec<u32> = numbers.by_ref().take(full * full + 10 * full).collect();
-    let bump = used[used.len() - 1] + 1;
-    let state = State {
-        bump,
-        length: bump,
-        list,
-    };
+    let used = (full * (full + 40)) as u32;
+    let state = in_order(&counts, used);
+    let (_, entries) = model::size(&state.list);
+    let used = (state.bump - used..state.bump).collect();
     let mut history = History::<R>::new(form, &state, used)?;
     history.write_list(&state.list);
 
-    // More than a top page can be popped for; a list fragmented in the end; one mended; nearly all
-    // handed out; all freed again.
-    let (_, entries) = model::size(&history.state.list);
+    // Whole pages come to the top; the list is left fragmented, and then mended; more than all of
+    // it is handed out; as many numbers are freed again, in two saves.
     for (count, freed) in [
-        (random.below(3 * full as u64) as usize, full * full + full),
-        (0, 1),
+        (0, full * (full + 20)),
+        (random.below(3 * full as u64) as usize, full),
+        (0, full),
         (0, 2 * full),
         (entries + full * full, 0),
         (1, entries),
         (full / 2, full * full),
     ] {
         history.hand_out(comparison, count)?;
-        let most = history.used.len();
-        let forced = history.forced(count, freed.min(most) / (full + 1));
+        let most = freed.min(history.used.len());
         let freed = match random.below(3) {
-            0 if freed > 1 => freed,
-            _ if freed > 0 => forced,
-            _ => 0,
+            0 => most,
+            _ if freed == 0 => 0,
+            _ => history.forced(count, most / (full + 1)),
         };
-        let freed = history.take_used(freed.min(most), random);
+        let freed = history.take_used(freed, random);
         history.finish(comparison, freed, random)?;
     }
     Ok(())
@@ -171,7 +223,8 @@ impl<R: Rust> History<R> {
         comparison.finishes::<R>(self.form, &save, list, &freed, &after, random);
         comparison.kind::<R>(&save, list, &freed, &after);
 
-        self.store.set_length(after.state.bump as usize * R::PAGE_SIZE)?;
+        self.store
+            .set_length(after.state.bump as usize * R::PAGE_SIZE)?;
         for (page, bytes) in &after.written {
             self.store.bytes_mut()[*page as usize * R::PAGE_SIZE..][..R::PAGE_SIZE]
                 .copy_from_slice(bytes);
@@ -229,17 +282,23 @@ impl<R: Rust> History<R> {
     }
 }
 
-/// How many numbers to hand out: none, few, many, all of the list and more.
-fn any_count(full: usize, entries: usize, random: &mut Random) -> usize {
+/// How many numbers to hand out: none, few, many, all of the list and more, and so many that few
+/// are left on the top page.
+fn any_count(full: usize, list: &List, random: &mut Random) -> usize {
+    let (_, entries) = model::size(list);
     let mut below = |limit: usize| random.below(limit as u64) as usize;
-    match below(9) {
+    match below(11) {
         0..=2 => 0,
         3 => 1 + below(3),
         4 => below(entries + 1),
         5 => entries,
         6 => entries + 1 + below(2),
         7 => below(2 * full + 2),
-        _ => entries + below(3 * full + 1),
+        8 => entries + below(3 * full + 1),
+        _ => {
+            let top = list.last().map_or(0, |(_, entries)| entries.len());
+            (top + full * below(list.len().min(2) + 1)).saturating_sub(1 + below(3))
+        }
     }
 }
 

@@ -1,6 +1,10 @@
 //! Random states: any bump, recorded length, list and count, standing or not, up to the limits.
 
-use super::{after, lent, model, Comparison, Form, Room, FINISH};
+use super::{
+    after,
+    lent::{lent, Room},
+    model, Comparison, Form, FINISH,
+};
 use common::Random;
 use mopsienna_sys::Save;
 use nomt_plain::{List, Rust, State};
@@ -61,7 +65,10 @@ fn one<R: Rust>(comparison: &mut Comparison, form: Form, random: &mut Random) ->
         let reply = comparison.library.finish(form, &save, &freed, &mut got);
         comparison.count(FINISH, &refusal, &reply, got == tables, || {
             let size = R::PAGE_SIZE;
-            format!("page size {size}, {save:?}, {room:?}, {} freed", freed.len())
+            format!(
+                "page size {size}, {save:?}, {room:?}, {} freed",
+                freed.len()
+            )
         });
         return Ok(());
     }
@@ -175,5 +182,7 @@ fn any_freed(full: usize, save: &Save, random: &mut Random) -> Vec<u32> {
         1 => 1 + random.below(3),
         _ => random.below(4 * full as u64),
     };
-    (0..count).map(|_| 1 + random.below(limit - 1) as u32).collect()
+    (0..count)
+        .map(|_| 1 + random.below(limit - 1) as u32)
+        .collect()
 }

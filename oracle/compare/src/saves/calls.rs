@@ -1,0 +1,279 @@
+//! Calls of the library beside what is expected of them.
+
+use super::{
+    lent::{lent, list_text, numbers_text, put_list, Room},
+    model::{self, After},
+    Comparison, Form, FINISH, HAND_OUT, READ_BACK,
+};
+use crate::report::difference;
+use common::Random;
+use mopsienna_sys::{sized::NO_PAGE_SIZE, Reply, Save};
+use nomt_plain::{Held, List, Rust};
+use std::io;
+
+impl Comparison<'_> {
+    /// Numbers that are no page size, and the least and the greatest that are.
+    pub fn page_sizes(&mut self) {
+        let save = Save {
+            bump: 30,
+            length: 8192,
+            pages: 0,
+            entries: 0,
+            count: 0,
+        };
+        for size in [
+            0,
+            4,
+            12,
+            15,
+            17,
+            18,
+            4095,
+            4097,
+            65_537,
+            65_540,
+            1 << 32,
+            u64::MAX,
+        ] {
+            let form = Form::Sized(size);
+            let refused = Reply::refusal(NO_PAGE_SIZE, &[]);
+            let text = || format!("page size {size}");
+            let reply = self.library.hand_out(form, &save, &[], &[]);
+            self.count(HAND_OUT, &refused, &reply, true, text);
+            let before = lent(
+                &vec![],
+                Room {
+                    pages: 3,
+                    entries: 3,
+                    bytes: 200,
+                    numbers: 3,
+                },
+            );
+            let mut after = before.clone();
+            let reply = self.library.finish(form, &save, &[5], &mut after);
+            self.count(FINISH, &refused, &reply, before == after, text);
+            let (pages, entries) = (&mut after.pages, &mut after.entries);
+            let reply = self.library.read_list(form, &[0; 64], 0, pages, entries);
+            self.count(READ_BACK, &refused, &reply, before == after, text);
+        }
+        for size in [16, 65_536] {
+            let reply = self.library.hand_out(Form::Sized(size), &save, &[], &[]);
+            let answer = Reply::answer(&[30, 1, 8192]);
+            self.count(HAND_OUT, &answer, &reply, true, || {
+                format!("page size {size}")
+            });
+        }
+    }
+
+    /// Handing out beside the Rust's number and recorded length, or beside a refusal.
+    pub fn hand_out<R: Rust>(
+        &mut self,
+        form: Form,
+        save: &Save,
+        pages: &[u32],
+        entries: &[u32],
+        rust: impl FnOnce() -> io::Result<(u32, u32)>,
+    ) -> io::Result<()> {
+        let expected = match model::hand_out(R::CAPACITY, save, pages, entries) {
+            Some(refusal) => refusal,
+            None => {
+                let (number, length) = rust()?;
+                Reply::answer(&[number.into(), save.count + 1, length.into()])
+            }
+        };
+        let reply = self.library.hand_out(form, save, pages, entries);
+        self.count(HAND_OUT, &expected, &reply, true, || {
+            format!(
+                "page size {}, {save:?}, tables of {} and {}, the last entries {:?}",
+                R::PAGE_SIZE,
+                pages.len(),
+                entries.len(),
+                &entries[entries.len().saturating_sub(8)..],
+            )
+        });
+        Ok(())
+    }
+
+    /// Finishing beside what the Rust made of the save: with the room that is needed, with more
+    /// and with less of each, and with freed numbers that are none.
+    pub fn finishes<R: Rust>(
+        &mut self,
+        form: Form,
+        save: &Save,
+        list: &List,
+        freed: &[u32],
+        after: &After,
+        random: &mut Random,
+    ) {
+        let (pages, entries) = model::size(list);
+        let (new_pages, new_entries) = model::size(&after.state.list);
+        let written = after.written.len();
+        let exact = Room {
+            pages: pages.max(new_pages),
+            entries: entries.max(new_entries),
+            bytes: written * R::PAGE_SIZE,
+            numbers: written,
+        };
+        let ample = Room {
+            pages: exact.pages + 2,
+            entries: exact.entries + 5,
+            bytes: exact.bytes + R::PAGE_SIZE + 3,
+            numbers: exact.numbers + 2,
+        };
+        let shorter = |length: usize| length.saturating_sub(1);
+        let rooms = [
+            exact,
+            ample,
+            Room {
+                pages: shorter(exact.pages),
+                ..ample
+            },
+            Room {
+                entries: shorter(exact.entries),
+                ..ample
+            },
+            Room {
+                bytes: shorter(exact.bytes),
+                ..ample
+            },
+            Room {
+                numbers: shorter(exact.numbers),
+                ..ample
+            },
+            Room {
+                pages: shorter(exact.pages),
+                bytes: 0,
+                numbers: 0,
+                ..exact
+            },
+        ];
+        for room in rooms {
+            self.finishing::<R>(form, save, list, freed, room, after);
+        }
+
+        // The Rust takes any number as freed, and what it makes of the save depends only on how
+        // many there are, but for their places in the list.
+        if freed.is_empty() {
+            return;
+        }
+        let limit = model::freed_limit(save).min(u32::MAX.into()) as u32;
+        let mut bad = freed.to_vec();
+        for _ in 0..1 + random.below(2) {
+            let place = random.below(bad.len() as u64) as usize;
+            bad[place] = match random.below(4) {
+                0 => 0,
+                1 => limit,
+                2 => limit.saturating_add(1 + random.below(1000) as u32),
+                _ => u32::MAX,
+            };
+            let room = if random.below(2) == 0 {
+                ample
+            } else {
+                rooms[6]
+            };
+            self.finishing::<R>(form, save, list, &bad, room, after);
+        }
+    }
+
+    /// Finishing once.
+    fn finishing<R: Rust>(
+        &mut self,
+        form: Form,
+        save: &Save,
+        list: &List,
+        freed: &[u32],
+        room: Room,
+        after: &After,
+    ) {
+        let mut got = lent(list, room);
+        let mut expected_lent = got.clone();
+        let refusal = model::finish(
+            R::CAPACITY,
+            R::PAGE_SIZE,
+            save,
+            freed,
+            &expected_lent,
+            after,
+        );
+        let expected = refusal.unwrap_or_else(|| {
+            put_list(&mut expected_lent, &after.state.list);
+            for (place, (number, bytes)) in after.written.iter().enumerate() {
+                expected_lent.numbers[place] = *number;
+                expected_lent.buffer[place * R::PAGE_SIZE..][..R::PAGE_SIZE].copy_from_slice(bytes);
+            }
+            let (pages, entries) = model::size(&after.state.list);
+            Reply::answer(&[
+                after.head.into(),
+                after.state.bump.into(),
+                after.state.length.into(),
+                pages as u64,
+                entries as u64,
+                after.written.len() as u64,
+            ])
+        });
+        let reply = self.library.finish(form, save, freed, &mut got);
+        let same = got == expected_lent;
+        self.count(FINISH, &expected, &reply, same, || {
+            format!(
+                "page size {}, {save:?}, list {}, freed {}, {room:?}{}{}{}{}",
+                R::PAGE_SIZE,
+                list_text(list),
+                numbers_text(freed),
+                difference("pages", &expected_lent.pages, &got.pages),
+                difference("entries", &expected_lent.entries, &got.entries),
+                difference("buffer", &expected_lent.buffer, &got.buffer),
+                difference("numbers", &expected_lent.numbers, &got.numbers),
+            )
+        });
+    }
+
+    /// Reads the list that a save made back from the store, on both sides.
+    pub fn read_back<R: Rust>(
+        &mut self,
+        form: Form,
+        store: &common::Store,
+        after: &After,
+    ) -> io::Result<()> {
+        let list = &after.state.list;
+        let (pages, entries) = model::size(list);
+        let room = Room {
+            pages: pages + 1,
+            entries: entries + 1,
+            bytes: 0,
+            numbers: 0,
+        };
+        let mut expected = lent(&vec![], room);
+        let mut got = expected.clone();
+        put_list(&mut expected, list);
+        let reply = self.library.read_list(
+            form,
+            store.bytes(),
+            after.head,
+            &mut got.pages,
+            &mut got.entries,
+        );
+        let rust = R::read(store.file(), after.head)?;
+        let held = Held {
+            list: list.clone(),
+            entries,
+            fragmented: model::is_fragmented(R::CAPACITY, pages, entries),
+        };
+        let answer = Reply::answer(&[pages as u64, entries as u64]);
+        let same = got == expected && rust == held;
+        self.count(READ_BACK, &answer, &reply, same, || {
+            format!(
+                "page size {}, list {}{}{}{}",
+                R::PAGE_SIZE,
+                list_text(list),
+                difference("pages", &expected.pages, &got.pages),
+                difference("entries", &expected.entries, &got.entries),
+                if rust == held {
+                    ""
+                } else {
+                    ", the Rust reads another list"
+                },
+            )
+        });
+        Ok(())
+    }
+}
