@@ -1,6 +1,6 @@
 -- The pages of a list of the shape: how many entries stand below a page, and on it.
-use Prim.Native.Nat.{ℕ, suc, _+_, _*_, _-_, _<_, _≤_}
-use native.Mathlib.Nat.{mul-suc, mul-add, mul-le-mul-left}
+use Prim.Native.Nat.{ℕ, _+_, _*_, _-_, _<_, _≤_}
+use native.Mathlib.Nat.{mul-le-mul-left}
 use native.Mathlib.Decide.{decLt}
 use native.Mathlib.Omega.{arith}
 use mathlib.Core.Path.{_≡_, refl, ap, sym, _∙_}

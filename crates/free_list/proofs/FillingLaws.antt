@@ -1,9 +1,9 @@
 -- Filling the tables from their ends down: what is written so far and what is still to be written make the whole list.
 use Prim.Native.Nat.{ℕ, zero, suc, _+_, _-_, _<_, _≤_}
-use native.Mathlib.Nat.{not-suc-le-zero, zero-add}
+use native.Mathlib.Nat.{not-suc-le-zero}
 use native.Mathlib.Numerals.{add-one}
 use native.Mathlib.Omega.{arith}
-use mathlib.Core.Path.{_≡_, refl, ap, sym, _∙_, subst, subst⁻¹}
+use mathlib.Core.Path.{_≡_, refl, ap, sym, _∙_}
 use mathlib.Core.List.{List, [], _∷_, _++_}
 use lib.ListN.{length, set, length-append, length-set}
 use lib.Seq.{sets, length-sets}
@@ -11,7 +11,6 @@ use Rattle.page.specs.PageSize.{capacity}
 use Rattle.page.specs.Pages.{pageCount, pageAt}
 use Rattle.page.proofs.SetsLaws.{sets-append, sets-comm}
 use Rattle.free_list.specs.ListPages.{prevOf, countOf, entriesOf}
-use Rattle.free_list.specs.Shape.{FreeList}
 use Rattle.free_list.specs.Steps.{chainFrom, Readable}
 use Rattle.free_list.proofs.ListPagesLaws.{length-entriesOf}
 

@@ -1,20 +1,20 @@
 -- Reading into tables, from the size that the walk found.
 use Prim.Native.Nat.{ℕ, _<_, _≤_}
 use native.Mathlib.Omega.{arith}
-use mathlib.Core.Path.{_≡_, refl, ap, sym, _∙_, subst}
+use mathlib.Core.Path.{_≡_, ap, sym, _∙_, subst}
 use mathlib.Core.Bool.{true}
 use mathlib.Core.List.{List, []}
 use lib.Dec.{leb}
 use lib.ListN.{length}
 use lib.Seq.{sets}
 use borrow.Author.Tests.{le-leb, lt-leb}
-use Rattle.refusal.specs.Outcome.{Outcome, answer, refused, withAnswer}
+use Rattle.refusal.specs.Outcome.{Outcome, answer, refused}
 use Rattle.refusal.proofs.Cases.{withAnswer-answer, withAnswer-refused}
 use Rattle.page.specs.Pages.{pageCount}
 use Rattle.free_list.specs.Shape.{FreeList}
 use Rattle.free_list.specs.Reading.{readList, ListSize, sizeOf, ReadEffect, readInto}
 use Rattle.free_list.specs.Steps.{readSize, chainFrom, Readable}
-use Rattle.free_list.proofs.ReadingLaws.{Chain, read-chain}
+use Rattle.free_list.proofs.ReadingLaws.{read-chain}
 
 -- what a call leaves
 abbrev pub effect : Outcome ListSize → List ℕ → List ℕ → ReadEffect

@@ -1,5 +1,5 @@
 -- List reading, page by page: what a page that is read tells, and what the list is made of.
-use Prim.Native.Nat.{ℕ, zero, suc, _+_, _*_, _-_, _/_, _<_, _≤_}
+use Prim.Native.Nat.{ℕ, zero, suc, _+_, _*_, _-_, _<_, _≤_}
 use native.Mathlib.Nat.{not-suc-le-zero, add-zero, zero-add}
 use native.Mathlib.Numerals.{add-one}
 use native.Mathlib.Omega.{arith}
@@ -9,7 +9,7 @@ use mathlib.Core.Bool.{Bool, true, false, _&&_, _||_, cond}
 use mathlib.Core.List.{List, [], _∷_, _++_}
 use lib.Dec.{leb, ltb, eqb}
 use lib.ListN.{length, length-append}
-use borrow.Author.Tests.{le-leb, lt-leb, lt-ltb, le-ltb, leb-true, ltb-true, eqb-true, ne-eqb}
+use borrow.Author.Tests.{lt-ltb, le-ltb, leb-true, ltb-true, eqb-true, ne-eqb}
 use Rattle.refusal.specs.Outcome.{Outcome, answer, refused, check, withAnswer}
 use Rattle.refusal.proofs.Cases.{check-answer, withAnswer-answer, cond-cases, and-true, or-true}
 use Rattle.page.specs.Bytes.{numberAt, numbersAt}

@@ -2,7 +2,7 @@
 use Prim.Native.Nat.{ℕ, zero, suc, _+_, _*_, _-_, _<_, _≤_}
 use native.Mathlib.Nat.{mul-suc, mul-zero, zero-sub}
 use native.Mathlib.Omega.{arith}
-use mathlib.Core.Path.{_≡_, refl, ap, sym, _∙_, subst}
+use mathlib.Core.Path.{_≡_, refl, sym}
 use mathlib.Core.Logic.{_⊎_, inl, inr, ⊎-elim}
 use mathlib.Core.Bool.{Bool, true, false, _&&_, _||_}
 use mathlib.Core.List.{List, [], _∷_, _++_, List·Memᴰ, List·Memᴰ·append-cases, List·Memᴰ·cases-cons, List·Memᴰ·eq-of-singleton, List·Memᴰ·not-nil}
@@ -13,9 +13,9 @@ use Rattle.refusal.specs.Outcome.{answer}
 use Rattle.refusal.proofs.Cases.{cond-cases, and-true, or-true}
 use Rattle.page.specs.PageSize.{capacity}
 use Rattle.page.specs.Pages.{pageCount, pageAt}
-use Rattle.free_list.specs.ListPages.{prevOf, countOf, entriesOf}
+use Rattle.free_list.specs.ListPages.{countOf, entriesOf}
 use Rattle.free_list.specs.Shape.{FreeList, isShape}
-use Rattle.free_list.specs.Reading.{emptyList, onTop, countFits, entriesFit, readFrom, readList}
+use Rattle.free_list.specs.Reading.{countFits, entriesFit, readFrom, readList}
 use Rattle.free_list.proofs.ListPagesLaws.{length-entriesOf}
 use Rattle.free_list.proofs.ReadingLaws.{read-elim}
 

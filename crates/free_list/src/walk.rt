@@ -5,7 +5,7 @@ ghost use lib.Dec.{leb, ltb};
 ghost use Prim.Native.Nat.{_+_, _*_, _<_, _≤_};
 ghost use lib.ListN.{length};
 ghost use Rattle.page.specs.Bytes.{numbersAt};
-ghost use Rattle.page.specs.PageSize.{PageSize, capacity};
+ghost use Rattle.page.specs.PageSize.{PageSize};
 ghost use Rattle.page.specs.Pages.{pageCount};
 ghost use Rattle.free_list.specs.Reading.{countFits, entriesFit};
 ghost use Rattle.free_list.specs.Steps.{sizeFrom, visitedSize, walkedSize, Sound, Advanced, Onward};

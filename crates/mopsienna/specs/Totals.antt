@@ -3,7 +3,7 @@ use Prim.Native.Nat.{ℕ}
 use mathlib.Core.List.{List, [], _∷_}
 use Rattle.refusal.specs.Outcome.{Outcome, answer, withAnswer}
 use Rattle.page.specs.Growth.{grow}
-use Rattle.overflow.specs.Totals.{Total, pageTotal}
+use Rattle.overflow.specs.Totals.{pageTotal}
 
 -- the new length
 unfoldable pub growValues : ℕ → Outcome (List ℕ)

@@ -1,7 +1,6 @@
 // How a store grows, and how many pages a value takes.
 ghost use mathlib.Core.Path.{_≡_};
-ghost use lib.Seq.{sets};
-ghost use Rattle.refusal.specs.Outcome.{Outcome, status, filled};
+ghost use Rattle.refusal.specs.Outcome.{status, filled};
 ghost use Rattle.page.specs.PageSize.{pageSize};
 ghost use Rattle.mopsienna.specs.Totals.{growValues, totalValues};
 use overflow::total::PageTotal;

@@ -1,5 +1,5 @@
 -- The pages of a value together hold all its numbers after the cell's and all its bytes, and none is empty.
-use Prim.Native.Nat.{ℕ, zero, suc, _+_, _*_, _-_, _/_, min, _≤_, _<_}
+use Prim.Native.Nat.{ℕ, zero, suc, _+_, _*_, _-_, min, _≤_, _<_}
 use mathlib.Core.Path.{_≡_, refl}
 use native.Mathlib.Nat.{mul-suc, mul-zero, add-zero, add-suc, mul-le-mul-right}
 use native.Mathlib.Omega.{arith}

@@ -1,7 +1,7 @@
 -- How many pages a value takes, at pages of s bytes.
 use Prim.Native.Nat.{ℕ, _+_, _*_, _-_, _/_, _^_, min}
 use mathlib.Core.Bool.{_&&_, _||_, cond}
-use mathlib.Core.List.{List, [], _∷_}
+use mathlib.Core.List.{[]}
 use lib.Dec.{leb}
 use Rattle.refusal.specs.Outcome.{Outcome, answer, check}
 use Rattle.refusal.specs.Refusals.{refusal}

@@ -1,11 +1,11 @@
 -- Laws of numbers in bytes, each for every width.
-use Prim.Native.Nat.{ℕ, zero, suc, _+_, _*_, _-_, _/_, _%_, _^_, _<_, _≤_}
-use mathlib.Core.Path.{_≡_, refl, sym, _∙_, ap, ap₂}
+use Prim.Native.Nat.{ℕ, zero, suc, _+_, _*_, _/_, _%_, _^_, _<_, _≤_}
+use mathlib.Core.Path.{_≡_, refl, _∙_, ap, ap₂}
 use mathlib.Core.List.{List, [], _∷_, _++_, append-assoc, append-nil, List·Memᴰ, List·Memᴰ·head, List·Memᴰ·tail}
-use native.Mathlib.Nat.{le-of-suc-le-suc, not-suc-le-zero, mul-zero, mul-suc, zero-add, add-zero, suc-add, add-suc, add-assoc, pow-zero, pow-suc, pow-succ', div-one, div-div-eq-div-mul, div-lt-iff-lt-mul}
+use native.Mathlib.Nat.{le-of-suc-le-suc, not-suc-le-zero, mul-zero, mul-suc, zero-add, add-zero, suc-add, add-assoc, pow-zero, pow-suc, pow-succ', div-one, div-div-eq-div-mul, div-lt-iff-lt-mul}
 use native.Mathlib.Numerals.{add-one}
 use native.Mathlib.Omega.{arith}
-use lib.ListN.{length, getD, take, drop, set, length-set, length-append, length-drop, List·getD-append}
+use lib.ListN.{length, getD, take, drop, set, length-append, length-drop, List·getD-append}
 use lib.Seq.{sets, take-suc, length-take-le, getD-take, getD-drop, getD-append-add}
 use lib.Arith.{mod-mul}
 use Rattle.page.specs.Bytes.{numberAt, bytesOf, numbersAt, bytesOfAll}

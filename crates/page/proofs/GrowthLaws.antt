@@ -1,9 +1,8 @@
 -- `grown` is what its words say: the least multiple of 8,192 not below g + 8,191; and it is a page number up to the largest bump.
 use Prim.Native.Nat.{ℕ, _+_, _*_, _-_, _/_, _^_, _≤_, _<_}
-use mathlib.Core.Path.{_≡_, refl}
 use native.Mathlib.Nat.{lt-div-mul-add, div-mul-le-self, lt-of-mul-lt-mul-right, mul-le-mul-right}
 use native.Mathlib.Omega.{arith}
-use Rattle.page.specs.Growth.{maxBump, growth, roundedUp, grown}
+use Rattle.page.specs.Growth.{maxBump, roundedUp, grown}
 
 -- the multiple of m is not below n
 pub roundedUp-above : (m n : ℕ) → 0 < m → n ≤ roundedUp m n

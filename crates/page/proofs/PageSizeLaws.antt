@@ -1,5 +1,5 @@
 -- What every page size has, and that document 01's is one.
-use Prim.Native.Nat.{ℕ, _*_, _/_, _≤_, _<_}
+use Prim.Native.Nat.{ℕ, _*_, _/_, _≤_}
 use mathlib.Core.Path.{_≡_, refl}
 use native.Mathlib.Omega.{arith}
 use Rattle.page.specs.PageSize.{capacity, PageSize, pageSize}

@@ -2,7 +2,7 @@
 use Prim.Native.Nat.{ℕ, _+_, _*_, _-_, _/_}
 use mathlib.Core.List.{[]}
 use lib.Dec.{leb}
-use Rattle.refusal.specs.Outcome.{Outcome, answer, refused, check}
+use Rattle.refusal.specs.Outcome.{Outcome, answer, check}
 use Rattle.refusal.specs.Refusals.{refusal}
 use Rattle.page.specs.declared.growth.Grown.{Grown}
 use Rattle.page.specs.declared.growth.Grown.the-variants.{To, Refused}

@@ -1,8 +1,8 @@
 -- What the test of a page size says.
-use Prim.Native.Nat.{ℕ, _*_, _-_, _%_, _≤_}
+use Prim.Native.Nat.{ℕ, _-_, _%_, _≤_}
 use native.Mathlib.Nat.{le-div-iff-mul-le}
 use native.Mathlib.Omega.{arith}
-use mathlib.Core.Path.{_≡_, sym, _∙_}
+use mathlib.Core.Path.{_≡_}
 use mathlib.Core.Bool.{Bool, true, false, _&&_}
 use lib.Dec.{leb, eqb}
 use borrow.Author.Tests.{leb-true, eqb-true}

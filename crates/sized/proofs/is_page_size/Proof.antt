@@ -1,6 +1,5 @@
 -- `is_page_size` meets its contract.
 -- Assumes nothing.
-use native.Mathlib.Omega.{arith}
 use borrow.Author.Tests.{le-leb, lt-leb}
 use Rattle.sized.specs.Sizes.{isPageSize}
 use Rattle.sized.proofs.is_page_size.Statement.{statement}

@@ -9,7 +9,7 @@ use lib.ListN.{length, set}
 use lib.Seq.{sets}
 use Rattle.page.specs.Bytes.{numbersAt}
 use Rattle.page.specs.PageSize.{PageSize, capacity}
-use Rattle.page.specs.Pages.{pageCount, pageAt}
+use Rattle.page.specs.Pages.{pageAt}
 use Rattle.page.proofs.PageSizeLaws.{page-least}
 use Rattle.page.proofs.PagesLaws.{page-within, length-pageAt}
 use Rattle.free_list.specs.ListPages.{prevOf, countOf, entriesOf}

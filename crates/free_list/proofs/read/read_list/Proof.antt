@@ -1,7 +1,6 @@
 -- `read_list` meets its contract: what the walk found is the list's size or its refusal; the rest is the room in the tables.
 -- Assumes nothing.
-use mathlib.Core.Path.{_≡_, sym, ap, _∙_, ap₂}
-use native.Mathlib.Omega.{arith}
+use mathlib.Core.Path.{sym, ap, _∙_, ap₂}
 use Rattle.free_list.specs.Reading.{readOutcome}
 use Rattle.free_list.proofs.IntoLaws.{effect, listed, into-refused, into-short-pages, into-short-entries, into-read}
 use borrow.Author.Needs.{needs}

@@ -1,9 +1,7 @@
 -- `page_total` meets its contract: both tests of the size, and the total has room for the value.
 -- Assumes nothing.
-use mathlib.Core.Path.{ap}
 use native.Mathlib.Omega.{arith}
 use borrow.Author.Tests.{le-leb, lt-leb}
-use Rattle.refusal.specs.Outcome.{answer}
 use Rattle.page.proofs.PageSizeLaws.{page-size}
 use Rattle.overflow.specs.Totals.{pageTotal, totalOf}
 use Rattle.overflow.proofs.TotalsLaws.{total-enough, total-small}

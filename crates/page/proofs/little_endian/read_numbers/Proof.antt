@@ -4,7 +4,7 @@ use Prim.Native.Nat.{_≤_, _-_}
 use mathlib.Core.Path.{_≡_, refl, ap, _∙_}
 use native.Mathlib.Omega.{arith}
 use lib.ListN.{length, length-set}
-use lib.Seq.{sets, length-sets}
+use lib.Seq.{sets}
 use Rattle.page.specs.Bytes.{numbersAt}
 use Rattle.page.proofs.BytesLaws.{numbers-more}
 use Rattle.page.proofs.little_endian.read_numbers.Statement.{statement}

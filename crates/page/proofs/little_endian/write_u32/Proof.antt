@@ -1,6 +1,5 @@
 -- `write_u32` meets its contract: the lower 2 bytes, then the upper.
 -- Assumes nothing.
-use native.Mathlib.Omega.{arith}
 use Rattle.page.proofs.BytesLaws.{written-halves}
 use borrow.Author.Needs.{needs}
 use Rattle.page.proofs.little_endian.write_u32.Statement.{statement}

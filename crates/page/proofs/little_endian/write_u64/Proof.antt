@@ -1,6 +1,5 @@
 -- `write_u64` meets its contract: the lower 4 bytes, then the upper.
 -- Assumes nothing.
-use native.Mathlib.Omega.{arith}
 use Rattle.page.proofs.BytesLaws.{written-halves}
 use borrow.Author.Needs.{needs}
 use Rattle.page.proofs.little_endian.write_u64.Statement.{statement}
