@@ -124,8 +124,9 @@ uint32_t mopsienna_hand_out(uint32_t bump, uint32_t length, uint64_t P, uint64_t
  * All other places stay as they were, and after a refusal all places do. If nothing was handed out
  * from the list and nothing is freed, the list stays and no page is written.
  *
- * No page is written that the list before the save needs, except one that is written with the bytes
- * it has. So the old head and the old recorded length are good until the new head is recorded.
+ * Where the numbers of the old list, pages and entries, all differ and lie below the bump, a page
+ * that is to be written has the number of an old list page only if it holds the previous number and
+ * the entries that page holds.
  *
  * Refusals, in this order:
  *   1  the save

@@ -253,7 +253,7 @@ module _ (s : ℕ) (l : FreeList) (k : ℕ) (freed : List ℕ) (bump : ℕ) (two
       let p = plan-keeps (capacity s) l k freed bump two shape kL changed in
       same-kept s p j (below-top-full p j h)
 
-  -- A top kept page that is whole is written at its old number, and unchanged: its number, its previous number, its entries, its bytes.
+  -- A top kept page that is whole is written at its old number, and unchanged: its number, its previous number, its entries, and how it is encoded.
   pub kept-top : 1 ≤ planOf (capacity s) l k freed bump .kept → planOf (capacity s) l k freed bump .left ≡ capacity s * planOf (capacity s) l k freed bump .kept
       → SameKept s l (planOf (capacity s) l k freed bump) (planOf (capacity s) l k freed bump .kept - 1)
   kept-top one whole =

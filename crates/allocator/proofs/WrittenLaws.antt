@@ -1,4 +1,5 @@
--- The pages that a finish writes: one that has an old list page's number is the top page kept, full, and has the bytes it had.
+-- The pages that a finish writes: one that has an old list page's number is the top page kept, full, and encoded as it would have been
+-- before. What a store had past the entries of that page is not spoken of: no reader looks there.
 use Prim.Native.Nat.{ℕ, _+_, _*_, _-_, _<_, _≤_}
 use native.Mathlib.Decide.{ℕ-discrete}
 use native.Mathlib.Omega.{arith}
@@ -46,8 +47,8 @@ module _ (s : ℕ) (l : FreeList) (k : ℕ) (freed : List ℕ) (bump : ℕ) (two
       let place : j ≡ length kept + (j - t .kept) = omega (arith, long) in
       ap (λ (i : ℕ). getD (kept ++ t .fresh) i 0) place ∙ getD-append-add kept (t .fresh) (j - t .kept) 0
 
-  -- A page that is written at the number of an old list page is the top page kept. It is full, and its number, its previous number, its
-  -- entries and its bytes are what they were.
+  -- A page that is written at the number of an old list page is the top page kept. It is full, and its number, its previous number and
+  -- its entries are what they were; so it is encoded as the old list's page would be.
   pub written-old : (j : ℕ) → t .kept ≤ j + 1 → j < length (newList l t .pages) → List·Memᴰ (getD (newList l t .pages) j 0) (l .pages)
       → (j + 1 ≡ t .kept) × SameKept s l t j
   written-old j h below m = go (ℕ-discrete (j + 1) (t .kept))
