@@ -4,10 +4,11 @@ use mathlib.Core.Path.{_≡_, refl, sym, _∙_, ap}
 use mathlib.Core.Logic.{_≢_}
 use mathlib.Core.List.{List, [], _∷_, _++_, append-nil, append-assoc}
 use native.Mathlib.Nat.{add-zero, zero-add, suc-add, add-suc}
+use native.Mathlib.Numerals.{add-one}
 use native.Mathlib.Omega.{arith}
 use borrow.Rule.Slice.PartMut.{putMid}
 use lib.ListN.{length, getD, take, drop, set, length-set, length-drop, take-append-drop, replicate, length-replicate, replicate-append-replicate, drop-of-length-le}
-use lib.Seq.{sets, sets-eq, drop-drop, drop-append-le, set-set, set-comm, getD-set-same, getD-set-other, length-take-le}
+use lib.Seq.{sets, sets-eq, take-suc, getD-drop, drop-drop, drop-append-le, set-set, set-comm, getD-set-same, getD-set-other, length-take-le}
 
 -- in two parts
 pub sets-append : (l : List ℕ) (i : ℕ) (xs ys : List ℕ) → sets l i (xs ++ ys) ≡ sets (sets l i xs) (i + length xs) ys
@@ -25,6 +26,14 @@ zeros-more l m from i h e =
     let one : i + 1 - from ≡ n + 1 = omega arith in
     let last : from + n ≡ i = omega arith in
     rw (one, ← replicate-append-replicate {A = ℕ} n 1 0, sets-snoc l from (replicate n 0) 0 n (length-replicate {A = ℕ} n 0), last, ← e)
+
+-- the first i values of a part of another list, with one more stored behind them
+pub copied-more : (l m a : List ℕ) (from to i : ℕ) → from + i < length a → m ≡ sets l to (take i (drop from a)) → set m (to + i) (getD a (from + i) 0) ≡ sets l to (take (i + 1) (drop from a))
+copied-more l m a from to i h e =
+    let first = take i (drop from a) in
+    let inside : i < length (drop from a) = omega (arith, length-drop from a) in
+    let more : take (i + 1) (drop from a) ≡ first ++ (getD a (from + i) 0 ∷ []) = rw (add-one, take-suc (drop from a) i 0 inside, getD-drop) in
+    rw (more, sets-snoc l to first (getD a (from + i) 0) i (length-take-le i (drop from a) (omega arith)), ← e)
 
 -- all places
 pub sets-whole : (l vs : List ℕ) → length vs ≡ length l → sets l 0 vs ≡ vs

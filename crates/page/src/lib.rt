@@ -1,6 +1,7 @@
 // Pages and what they are made of: numbers in bytes, page numbers, the pages of a store, and how a store grows.
 //
 // A page has `size` bytes: every function here takes the size, and PAGE_SIZE is document 01's.
+pub mod copy;
 pub mod fill;
 pub mod growth;
 pub mod little_endian;
