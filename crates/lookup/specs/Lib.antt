@@ -1,0 +1,2 @@
+-- Where a page lies, and its bytes (`Lookup`).
+pub mod Lookup
