@@ -31,7 +31,7 @@ module _ {s : ℕ} (total : ℕ) (page : PageSize s) where
       rw numbersBefore-is (omega (arith, mul-le-mul-right total one))
 
   -- the numbers fit the bodies, on the pages before page i and on page i
-  numbers-fit : (i : ℕ) → 4 * numbersBefore s total i ≤ body s * i
+  pub numbers-fit : (i : ℕ) → 4 * numbersBefore s total i ≤ body s * i
   numbers-fit i =
       let four : 4 * numbersPerPage s ≤ body s = omega arith in
       rw numbersBefore-is (omega (arith, mul-le-mul-right i four))
@@ -57,6 +57,17 @@ module _ {s : ℕ} (total : ℕ) (page : PageSize s) where
   pub bytesBefore-suc : (size i : ℕ) → bytesBefore s total size (suc i) ≡ bytesBefore s total size i + bytesOn s total size i
   unfolding bytesBefore bytesOn
   bytesBefore-suc size i = refl
+
+  -- what stands on the pages up to page i is no more than there is, and page i has room for its part
+  pub numbers-within : (i : ℕ) → numbersBefore s total i + numbersOn s total i ≤ total - cellNumbers
+  numbers-within i = rw (← numbersBefore-suc i, numbersBefore-is) (omega arith)
+
+  pub bytes-within : (size i : ℕ) → bytesBefore s total size i + bytesOn s total size i ≤ size
+  bytes-within size i = rw (← bytesBefore-suc size i, bytesBefore-is) (omega arith)
+
+  pub page-fits : (size i : ℕ) → 4 * numbersOn s total i + bytesOn s total size i ≤ body s
+  unfolding bytesOn
+  page-fits size i = omega (arith, numbersOn-fit i)
 
   -- all bytes stand on the pages, where these have room
   pub bytes-all : (size : ℕ) → size + 4 * (total - cellNumbers) ≤ body s * total → bytesBefore s total size total ≡ size

@@ -1,3 +1,5 @@
 -- Laws about the definitions of this crate, for the proofs here and above.
 pub mod TotalsLaws
 pub mod LayoutLaws
+pub mod ValuePagesLaws
+pub mod ChunkLaws

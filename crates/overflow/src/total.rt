@@ -69,7 +69,8 @@ fn needed_pages(page_size: usize, size: usize) -> usize
     (size + (body - 1)) / body
 }
 
-fn least(a: usize, b: usize) -> usize
+// The smaller of two numbers.
+pub(crate) fn least(a: usize, b: usize) -> usize
     ensures { λ r. ⌜ r ≡ min a b ⌝ }
 {
     if a < b { a } else { b }

@@ -1,0 +1,56 @@
+-- Value pages: two bytes count of numbers, two bytes count of value bytes, numbers, bytes.
+use Prim.Native.Nat.{ℕ, _+_, _*_, _-_}
+use mathlib.Core.Bool.{_&&_}
+use mathlib.Core.List.{List, [], _++_}
+use lib.Dec.{leb, ltb, eqb}
+use lib.ListN.{length, take, drop, replicate}
+use Rattle.refusal.specs.Outcome.{Outcome, answer, check}
+use Rattle.page.specs.Bytes.{numberAt, bytesOf, numbersAt, bytesOfAll}
+use Rattle.overflow.specs.Totals.{maxSize, cellNumbers, totalPages}
+use Rattle.overflow.specs.Layout.{numbersBefore, numbersOn, bytesBefore, bytesOn}
+use Rattle.overflow.specs.Stored.{Stored, storedIn}
+
+-- the count of numbers
+unfoldable pub numberCount : List ℕ → ℕ
+numberCount b = numberAt 2 b 0
+
+-- the count of value bytes
+unfoldable pub byteCount : List ℕ → ℕ
+byteCount b = numberAt 2 b 2
+
+-- the numbers
+unfoldable pub valueNumbers : List ℕ → List ℕ
+valueNumbers b = numbersAt 4 b 4 (numberCount b)
+
+-- the value bytes
+unfoldable pub valueBytes : List ℕ → List ℕ
+valueBytes b = take (byteCount b) (drop (4 + 4 * numberCount b) b)
+
+-- a value page as s bytes; those past the value bytes are zero
+unfoldable pub encodeValuePage : ℕ → List ℕ → List ℕ → List ℕ
+encodeValuePage s numbers bytes =
+    bytesOf 2 (length numbers)
+    ++ (bytesOf 2 (length bytes) ++ (bytesOfAll 4 numbers ++ (bytes ++ replicate (s - (4 + 4 * length numbers + length bytes)) 0)))
+
+-- page i of a value: its part of the numbers after the cell's, and of the bytes
+unfoldable pub valuePage : ℕ → List ℕ → List ℕ → ℕ → List ℕ
+valuePage s value numbers i =
+    let size = length value in
+    let total = totalPages s size in
+    encodeValuePage s
+    (take (numbersOn s total i) (drop (cellNumbers + numbersBefore s total i) numbers))
+    (take (bytesOn s total size i) (drop (bytesBefore s total size i) value))
+
+-- the same with so many bytes lent for it, in the order of the refusals
+unfoldable pub chunk : ℕ → List ℕ → List ℕ → ℕ → ℕ → Outcome (List ℕ)
+chunk s value numbers i bytesLent =
+    let size = length value in
+    let total = totalPages s size in
+    check (leb 1 size && leb size maxSize) 10 []
+    (check (eqb (length numbers) total && ltb i total) 11 []
+    (check (leb s bytesLent) 9 []
+    (answer (valuePage s value numbers i))))
+
+-- write page i of a value into a page buffer
+unfoldable pub chunkInto : ℕ → List ℕ → List ℕ → ℕ → List ℕ → Stored
+chunkInto s value numbers i page = storedIn page (chunk s value numbers i (length page))
