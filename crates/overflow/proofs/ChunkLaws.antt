@@ -8,14 +8,14 @@ use mathlib.Core.List.{List, []}
 use lib.ListN.{length, take, drop}
 use lib.Seq.{sets}
 use borrow.Author.Tests.{le-leb, lt-leb, lt-ltb, le-ltb, eq-eqb, ne-eqb}
-use Rattle.refusal.specs.Outcome.{Outcome, answer, refused}
+use Rattle.refusal.specs.Outcome.{answer, refused}
 use Rattle.page.specs.PageSize.{PageSize}
 use Rattle.page.proofs.PageSizeLaws.{page-least}
 use Rattle.overflow.specs.Totals.{maxSize, cellNumbers, body, totalPages}
 use Rattle.overflow.specs.Layout.{numbersPerPage, numbersBefore, numbersOn, bytesBefore, bytesOn}
-use Rattle.overflow.specs.Stored.{Stored}
 use Rattle.overflow.specs.ValuePages.{encodeValuePage, valuePage, chunk, chunkInto}
 use Rattle.overflow.proofs.LayoutLaws.{numbersBefore-is, bytesBefore-is, numbers-fit, numbers-within, bytes-within, page-fits}
+use Rattle.overflow.proofs.StoredLaws.{stored}
 use Rattle.overflow.proofs.ValuePagesLaws.{length-valuePage}
 
 -- ---- the parts
@@ -91,10 +91,6 @@ module _ {s : ℕ} (total i : ℕ) (page : PageSize s) {from count : ℕ} (n : N
     parts-room = omega (arith, n .1, v .1, page-least page, page-fits total page size i)
 
 -- ---- the ways
-
--- what a call leaves
-abbrev pub stored : Outcome ℕ → List ℕ → Stored
-stored outcome buffer = record { outcome = outcome; buffer = buffer }
 
 module _ (s : ℕ) (value numbers : List ℕ) (i : ℕ) (buffer : List ℕ) where
   -- a size that no value has

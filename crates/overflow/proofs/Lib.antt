@@ -1,5 +1,7 @@
 -- Laws about the definitions of this crate, for the proofs here and above.
 pub mod TotalsLaws
 pub mod LayoutLaws
+pub mod StoredLaws
 pub mod ValuePagesLaws
 pub mod ChunkLaws
+pub mod CellsLaws

@@ -7,7 +7,7 @@ use mathlib.Core.List.{List, _++_, List·Memᴰ, Memᴰ·append-left, Memᴰ·ap
 use lib.ListN.{length, getD, take, drop, replicate, length-append, length-replicate, length-drop, take-append-drop}
 use lib.Seq.{sets, getD-append-add, drop-append-add, drop-append-seam, take-append-seam, drop-drop, take-add, take-all, take-length, length-take-le}
 use Rattle.page.specs.PageSize.{PageSize}
-use Rattle.page.specs.Bytes.{numberAt, bytesOf, numbersAt, bytesOfAll}
+use Rattle.page.specs.Bytes.{bytesOf, numbersAt, bytesOfAll}
 use Rattle.page.proofs.PageSizeLaws.{page-least}
 use Rattle.page.proofs.SetsLaws.{sets-append}
 use Rattle.page.proofs.BytesLaws.{numberAt-append-left, numberAt-append-right, numbersAt-same, numberAt-bytesOf, numbersAt-bytesOfAll, length-bytesOf, length-bytesOfAll}

@@ -6,7 +6,6 @@ use Rattle.page.proofs.PageSizeLaws.{page-least}
 use Rattle.overflow.proofs.LayoutLaws.{numbersOn-fit}
 use Rattle.overflow.proofs.ChunkLaws.{product-small, numbers-room, bytes-from, bytes-count}
 use borrow.Author.Needs.{needs}
-use borrow.Author.Needs.{needs}
 use Rattle.overflow.proofs.chunk.bytes_on.Statement.{statement}
 use Rattle.overflow.proofs.chunk.bytes_on.Tie as tie
 

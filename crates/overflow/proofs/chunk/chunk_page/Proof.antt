@@ -5,7 +5,6 @@ use lib.ListN.{length}
 use Rattle.overflow.proofs.TotalsLaws.{total-small}
 use Rattle.overflow.proofs.ChunkLaws.{numbers-lent, bytes-lent, parts-room, chunk-empty, chunk-large, chunk-numbers, chunk-index, chunk-short, chunk-written}
 use borrow.Author.Needs.{needs}
-use borrow.Author.Needs.{needs}
 use Rattle.overflow.proofs.chunk.chunk_page.Statement.{statement}
 use Rattle.overflow.proofs.chunk.chunk_page.Tie as tie
 

@@ -5,7 +5,6 @@ use native.Mathlib.Omega.{arith}
 use Rattle.page.proofs.PageSizeLaws.{page-least}
 use Rattle.overflow.proofs.ChunkLaws.{product-small, numbers-from, numbers-count}
 use borrow.Author.Needs.{needs}
-use borrow.Author.Needs.{needs}
 use Rattle.overflow.proofs.chunk.numbers_on.Statement.{statement}
 use Rattle.overflow.proofs.chunk.numbers_on.Tie as tie
 

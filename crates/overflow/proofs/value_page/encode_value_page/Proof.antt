@@ -6,7 +6,6 @@ use lib.ListN.{length, take, drop, length-drop}
 use lib.Seq.{length-take-le}
 use Rattle.overflow.proofs.ValuePagesLaws.{encoded}
 use borrow.Author.Needs.{needs}
-use borrow.Author.Needs.{needs}
 use Rattle.overflow.proofs.value_page.encode_value_page.Statement.{statement}
 use Rattle.overflow.proofs.value_page.encode_value_page.Tie as tie
 

@@ -2,7 +2,6 @@
 -- Assumes nothing.
 use Rattle.overflow.specs.ValuePages.{numberCount}
 use borrow.Author.Needs.{needs}
-use borrow.Author.Needs.{needs}
 use Rattle.overflow.proofs.value_page.number_count.Statement.{statement}
 use Rattle.overflow.proofs.value_page.number_count.Tie as tie
 

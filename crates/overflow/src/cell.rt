@@ -1,0 +1,74 @@
+// Cells: size (8 bytes), hash (32, carried and not computed), numbers of pages.
+ghost use mathlib.Core.Path.{_≡_};
+ghost use Rattle.overflow.specs.Stored.{Stored, writtenOutcome};
+ghost use Rattle.overflow.specs.Cells.{encodeCellInto, DecodeEffect, decodedOutcome, cellCounts, decodeCellInto};
+use crate::stored::Written;
+use page::copy::copy;
+use page::little_endian::read_u64;
+use page::little_endian::write_numbers;
+use page::little_endian::write_u64;
+use refusal::Refusal;
+
+// The size of a value and how many numbers its cell holds.
+pub struct CellCounts {
+    pub size: usize,
+    pub numbers: usize,
+}
+
+pub enum Decoded {
+    Cell(CellCounts),
+    Refused(Refusal),
+}
+
+// Writes a cell to the start of the buffer. After a refusal the buffer is as it was.
+pub fn encode_cell(size: u64, hash: &[u8; 32], numbers: &[u32], cell: &mut [u8]) -> Written
+    ensures { λ r. ⌜ _≡_ {A = Stored} (record { outcome = writtenOutcome r; buffer = now (cell .exit) }) (encodeCellInto (record { size = size; hash = now (hash .entry); numbers = now (numbers .entry) }) (now (cell .entry))) ⌝ }
+{
+    if 0x2000_0000 < size {
+        return Written::Refused(Refusal::Size);
+    }
+    let count = numbers.len();
+    let length = 40 + 4 * count;
+    if cell.len() < length {
+        return Written::Refused(Refusal::Room);
+    }
+    write_u64(cell, 0, size);
+    copy(hash, 0, 32, cell, 8);
+    write_numbers(numbers, 0, count, cell, 40);
+    Written::Bytes(length)
+}
+
+// Reads a cell: its hash goes to the array, and its size and the count of its numbers are the answer. A refusal leaves the array.
+pub fn decode_cell(cell: &[u8], hash: &mut [u8; 32]) -> Decoded
+    ensures { λ r. ⌜ _≡_ {A = DecodeEffect} (record { outcome = decodedOutcome r; hash = now (hash .exit) }) (decodeCellInto (now (cell .entry)) (now (hash .entry))) ⌝ }
+{
+    let decoded = cell_counts(cell);
+    match decoded {
+        Decoded::Cell(counts) => {
+            copy(cell, 8, 32, hash, 0);
+            Decoded::Cell(counts)
+        }
+        Decoded::Refused(r) => Decoded::Refused(r),
+    }
+}
+
+// The size of a cell's value and how many numbers the cell holds, or refusal 12 or 10.
+pub(crate) fn cell_counts(cell: &[u8]) -> Decoded
+    ensures { λ r. ⌜ decodedOutcome r ≡ cellCounts (now (cell .entry)) ⌝ }
+{
+    let length = cell.len();
+    if length < 44 {
+        return Decoded::Refused(Refusal::Cell);
+    }
+    if length % 4 != 0 {
+        return Decoded::Refused(Refusal::Cell);
+    }
+    let size = read_u64(cell, 0);
+    if 0x2000_0000 < size {
+        return Decoded::Refused(Refusal::Size);
+    }
+    Decoded::Cell(CellCounts {
+        size: size as usize,
+        numbers: (length - 40) / 4,
+    })
+}
