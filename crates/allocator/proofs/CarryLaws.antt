@@ -13,6 +13,7 @@ use borrow.Author.Tests.{leb-true, eqb-true}
 use Rattle.refusal.proofs.Cases.{and-true, or-true}
 use Rattle.page.specs.PageSize.{capacity}
 use Rattle.page.specs.Pages.{Write}
+use Rattle.page.proofs.SetsLaws.{take-sets}
 use Rattle.free_list.specs.Shape.{isShape, isFragmented}
 use Rattle.preallocate.specs.Plan.{room}
 use Rattle.preallocate.specs.declared.turns.Plan.{Plan as Counts}
@@ -21,7 +22,7 @@ use Rattle.allocator.specs.Finish.{newList, encodedPages, bytesOfPages, 
 use Rattle.allocator.specs.Steps.{pushList, newNumbers, tableList, planIn, carriedIn, Listed, Planned, Writable}
 use Rattle.allocator.proofs.EncodeLaws.{length-encodedPages}
 use Rattle.allocator.proofs.PushLaws.{Pushes, plan-pushes, plan-longer, plan-few}
-use Rattle.allocator.proofs.NewListLaws.{take-sets, numbers-of-pages, length-new-numbers, length-new-pages, length-new-entries, new-written, table-pages, table-entries}
+use Rattle.allocator.proofs.NewListLaws.{numbers-of-pages, length-new-numbers, length-new-pages, length-new-entries, new-written, table-pages, table-entries}
 
 -- the shape as two bounds
 pub shape-bounds : (c P L : ℕ) → isShape c P L ≡ true → (L ≤ c * P) × (c * (P - 1) ≤ L)

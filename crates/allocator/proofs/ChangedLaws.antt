@@ -12,6 +12,7 @@ use Rattle.refusal.specs.Outcome.{answer}
 use Rattle.page.specs.PageSize.{PageSize, capacity}
 use Rattle.page.proofs.PageSizeLaws.{page-least}
 use Rattle.page.specs.Pages.{Write}
+use Rattle.page.proofs.SetsLaws.{take-sets}
 use Rattle.page.specs.Growth.{maxBump, grown}
 use Rattle.preallocate.specs.Counts.{counts, Planable}
 use Rattle.preallocate.specs.declared.turns.Plan.{Plan as Counts}
@@ -20,7 +21,6 @@ use Rattle.allocator.specs.Finish.{firstBad, headOf, carriedOut, finishe
 use Rattle.allocator.specs.Steps.{planIn, carriedIn, Planned, Writable, Changed}
 use Rattle.allocator.proofs.SaveLaws.{stands}
 use Rattle.allocator.proofs.SomeLaws.{plan-some}
-use Rattle.allocator.proofs.NewListLaws.{take-sets}
 use Rattle.allocator.proofs.FinishLaws.{effect, refusedAs, refused-limit, refused-freed, refused-pages, refused-entries, refused-bytes, refused-numbers, finish-done, finished-changed}
 use Rattle.allocator.proofs.CarryLaws.{bounds, pages-count, entries-count, written-count}
 

@@ -16,10 +16,6 @@ use Rattle.preallocate.specs.Plan.{Plan}
 use Rattle.allocator.specs.Finish.{newList, encodedPage, encodedPages}
 use Rattle.allocator.specs.Steps.{newNumbers, tableList}
 
--- a list that was written to a table from its start is its first part
-pub take-sets : (l vs : List ℕ) → length vs ≤ length l → take (length vs) (sets l 0 vs) ≡ vs
-take-sets l vs h = rw (sets-eq vs l 0 (omega arith)) (take-at vs (drop (0 + length vs) l) (length vs) refl)
-
 -- the numbers of pages from page j up
 pub numbers-of-pages : (s : ℕ) (l : FreeList) (j n : ℕ) → j + n ≡ length (l .pages) → map (λ (w : Write). w .number) (encodedPages s l j n) ≡ drop j (l .pages)
 unfolding encodedPages encodedPage

@@ -5,3 +5,7 @@ pub mod StoredLaws
 pub mod ValuePagesLaws
 pub mod ChunkLaws
 pub mod CellsLaws
+pub mod WalkLaws
+pub mod WalkingLaws
+pub mod CopyingLaws
+pub mod ReadLaws

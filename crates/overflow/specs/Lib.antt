@@ -1,7 +1,10 @@
 -- How many pages a value takes (`Totals`) and what each of them holds (`Layout`); value pages and cells as bytes (`ValuePages`, `Cells`,
--- and `Stored` for what a call writes to a buffer).
+-- and `Stored` for what a call writes to a buffer); reading and deleting (`Reading`), and the parts of that work (`Steps`), which only
+-- its private functions cite.
 pub mod Totals
 pub mod Layout
 pub mod Stored
 pub mod ValuePages
 pub mod Cells
+pub mod Reading
+pub mod Steps

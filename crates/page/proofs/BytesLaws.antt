@@ -115,6 +115,13 @@ getD-numbersAt w b i (suc n) (suc k) h =
     let e : i + w + w * k ≡ i + w * suc k = omega (arith, mul-suc w k) in
     rw (← e) (getD-numbersAt w b (i + w) n k (le-of-suc-le-suc h))
 
+-- the first k of them
+pub take-numbersAt : (w : ℕ) (b : List ℕ) (i n k : ℕ) → k ≤ n → take k (numbersAt w b i n) ≡ numbersAt w b i k
+unfolding numbersAt
+take-numbersAt w b i n zero h = refl
+take-numbersAt w b i zero (suc k) h = absurd (not-suc-le-zero h)
+take-numbersAt w b i (suc n) (suc k) h = ap (λ (ns : List ℕ). numberAt w b i ∷ ns) (take-numbersAt w b (i + w) n k (le-of-suc-le-suc h))
+
 -- they depend only on the bytes in use
 pub numbersAt-same : (w : ℕ) (a b : List ℕ) (i j n : ℕ) → ((k : ℕ) → k < w * n → getD a (i + k) 0 ≡ getD b (j + k) 0) → numbersAt w a i n ≡ numbersAt w b j n
 unfolding numbersAt

@@ -3,12 +3,12 @@ use Prim.Native.Nat.{ℕ, suc, _+_, _-_, _≤_, _<_}
 use mathlib.Core.Path.{_≡_, refl, sym, _∙_, ap}
 use mathlib.Core.Logic.{_≢_}
 use mathlib.Core.List.{List, [], _∷_, _++_, append-nil, append-assoc}
-use native.Mathlib.Nat.{add-zero, zero-add, suc-add, add-suc}
+use native.Mathlib.Nat.{le-of-suc-le-suc, not-suc-le-zero, add-zero, zero-add, suc-add, add-suc}
 use native.Mathlib.Numerals.{add-one}
 use native.Mathlib.Omega.{arith}
 use borrow.Rule.Slice.PartMut.{putMid}
 use lib.ListN.{length, getD, take, drop, set, length-set, length-drop, take-append-drop, replicate, length-replicate, replicate-append-replicate, drop-of-length-le}
-use lib.Seq.{sets, sets-eq, take-suc, getD-drop, drop-drop, drop-append-le, set-set, set-comm, getD-set-same, getD-set-other, length-take-le}
+use lib.Seq.{sets, sets-eq, take-suc, getD-drop, drop-drop, drop-append-le, set-set, set-comm, getD-set-same, getD-set-other, length-take-le, take-at}
 
 -- in two parts
 pub sets-append : (l : List ℕ) (i : ℕ) (xs ys : List ℕ) → sets l i (xs ++ ys) ≡ sets (sets l i xs) (i + length xs) ys
@@ -41,6 +41,10 @@ sets-whole l vs e =
     let all : length l ≤ length vs = omega arith in
     sets-eq vs l 0 (omega arith) ∙ rw (zero-add (length vs), drop-of-length-le l all, append-nil vs)
 
+-- a list that was written to a table from its start is its first part
+pub take-sets : (l vs : List ℕ) → length vs ≤ length l → take (length vs) (sets l 0 vs) ≡ vs
+take-sets l vs h = rw (sets-eq vs l 0 (omega arith)) (take-at vs (drop (0 + length vs) l) (length vs) refl)
+
 -- a store before the places of the others
 set-sets : (l : List ℕ) (i : ℕ) (xs : List ℕ) (j x : ℕ) → i + length xs ≤ j → sets (set l j x) i xs ≡ set (sets l i xs) j x
 set-sets l i [] j x h = refl
@@ -66,6 +70,13 @@ set-sets-before l i [] j x h = refl
 set-sets-before l i (y ∷ ys) j x h =
     let ne : i ≢ j = omega arith in
     set-sets-before (set l i y) (suc i) ys j x (omega arith) ∙ ap (λ (m : List ℕ). sets m (suc i) ys) (set-comm l i j y x ne)
+
+-- what was written before is written over
+pub sets-over : (l : List ℕ) (i : ℕ) (xs ys : List ℕ) → length xs ≤ length ys → sets (sets l i xs) i ys ≡ sets l i ys
+sets-over l i [] ys h = refl
+sets-over l i (x ∷ xs) [] h = absurd (not-suc-le-zero h)
+sets-over l i (x ∷ xs) (y ∷ ys) h =
+    rw (set-sets-before (set l i x) (suc i) xs i y (omega arith), set-set l i x y) (sets-over (set l i y) (suc i) xs ys (le-of-suc-le-suc h))
 
 -- the first two of those that are written change places
 pub sets-swapped : (l : List ℕ) (i x y : ℕ) (ns : List ℕ) → suc i < length l

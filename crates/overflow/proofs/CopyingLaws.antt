@@ -1,0 +1,91 @@
+-- Copying the value bytes of pages, one page after another.
+use Prim.Native.Nat.{ℕ, zero, suc, _+_, _*_, _-_, _<_, _≤_}
+use mathlib.Core.Path.{_≡_, refl, sym, _∙_, ap}
+use mathlib.Core.List.{List, [], _∷_, _++_, append-assoc, append-nil}
+use native.Mathlib.Numerals.{add-one}
+use native.Mathlib.Omega.{arith}
+use lib.ListN.{length, getD, take, drop, length-append}
+use lib.Seq.{sets, length-sets, take-add, take-suc}
+use Rattle.page.specs.PageSize.{PageSize}
+use Rattle.page.specs.Pages.{pageAt}
+use Rattle.page.proofs.PageSizeLaws.{page-least}
+use Rattle.page.proofs.SetsLaws.{sets-append}
+use Rattle.overflow.specs.ValuePages.{numberCount, byteCount, valueBytes}
+use Rattle.overflow.specs.Steps.{bytesOfPages, PageFits, PagesFit}
+use Rattle.overflow.proofs.WalkLaws.{page-long, length-valueBytes}
+
+module _ (s : ℕ) (store : List ℕ) where
+  pub bytesOfPages-append : (ps qs : List ℕ) → bytesOfPages s store (ps ++ qs) ≡ bytesOfPages s store ps ++ bytesOfPages s store qs
+  unfolding bytesOfPages
+  bytesOfPages-append [] qs = refl
+  bytesOfPages-append (p ∷ ps) qs = rw (bytesOfPages-append ps qs, append-assoc)
+
+  -- one page more
+  pub bytesOfPages-more : (ps : List ℕ) (i : ℕ) → i < length ps
+      → bytesOfPages s store (take (suc i) ps) ≡ bytesOfPages s store (take i ps) ++ valueBytes (pageAt s store (getD ps i 0))
+  unfolding bytesOfPages
+  bytesOfPages-more ps i h = rw (take-suc ps i 0 h, bytesOfPages-append (take i ps) (getD ps i 0 ∷ []), append-nil (valueBytes (pageAt s store (getD ps i 0))))
+
+  -- the first pages have no more bytes than all
+  pub bytesOfPages-few : (ps : List ℕ) (i d : ℕ) → length (bytesOfPages s store (take i ps)) ≤ length (bytesOfPages s store (take (i + d) ps))
+  bytesOfPages-few ps i d =
+      rw (take-add i d ps, bytesOfPages-append (take i ps) (take d (drop i ps))) (omega (arith, length-append (bytesOfPages s store (take i ps)) (bytesOfPages s store (take d (drop i ps)))))
+
+-- where the copying stands after i pages
+pub record Copying (s : ℕ) (store numbers : List ℕ) (total : ℕ) (value₀ value : List ℕ) (i at : ℕ) : Type 0 where
+  pub few : i ≤ total
+  pub at-is : length (bytesOfPages s store (take i numbers)) ≡ at
+  pub long : length value ≡ length value₀
+  pub value-is : value ≡ sets value₀ 0 (bytesOfPages s store (take i numbers))
+
+pub copying-start : (s : ℕ) (store numbers : List ℕ) (total : ℕ) (value : List ℕ) → Copying s store numbers total value value 0 0
+unfolding bytesOfPages
+copying-start s store numbers total value = record { few = omega arith; at-is = refl; long = refl; value-is = refl }
+
+-- what is to be copied next, and what stands in the buffer then
+pub record Copied (s : ℕ) (store numbers : List ℕ) (total : ℕ) (value₀ value : List ℕ) (i at n m : ℕ) (b : List ℕ) : Type 0 where
+  pub header : 4 ≤ length b
+  pub source : 4 + 4 * n + m ≤ length b
+  pub room : at + m ≤ length value
+  pub next : (written : List ℕ) → written ≡ sets value at (take m (drop (4 + 4 * n) b)) → Copying s store numbers total value₀ written (i + 1) (at + m)
+
+module _ {s : ℕ} {store numbers : List ℕ} {total : ℕ} {value₀ value : List ℕ} {i at : ℕ} (size : PageSize s) (fit : PagesFit s store total numbers)
+    (enough : total ≤ length numbers) (fits : length (bytesOfPages s store (take total numbers)) ≤ length value₀)
+    (k : Copying s store numbers total value₀ value i at) (h : i < total) where
+  pub copied : {b : List ℕ} (n m : ℕ) → b ≡ pageAt s store (getD numbers i 0) → n ≡ numberCount b → m ≡ byteCount b → Copied s store numbers total value₀ value i at n m b
+  unfolding valueBytes
+  copied {b} n m page numbered counted =
+      let p = getD numbers i 0 in
+      let f = fit i h in
+      let long : length b ≡ s = page-long s store {p = p} size page (f .inside) in
+      let least = page-least size in
+      let n-is : n ≡ numberCount (pageAt s store p) = numbered ∙ ap numberCount page in
+      let m-is : m ≡ byteCount (pageAt s store p) = counted ∙ ap byteCount page in
+      let bytes : take m (drop (4 + 4 * n) b) ≡ valueBytes (pageAt s store p) = rw (n-is, m-is, page) in
+      let count : length (valueBytes (pageAt s store p)) ≡ m = length-valueBytes s store p size f ∙ sym m-is in
+      let before = bytesOfPages s store (take i numbers) in
+      let more : bytesOfPages s store (take (i + 1) numbers) ≡ before ++ valueBytes (pageAt s store p) = rw add-one (bytesOfPages-more s store numbers i (omega arith)) in
+      let at-next : length (bytesOfPages s store (take (i + 1) numbers)) ≡ at + m = rw (more, length-append before (valueBytes (pageAt s store p)), k .at-is, count) in
+      let sum : i + 1 + (total - (i + 1)) ≡ total = omega arith in
+      let all : length (bytesOfPages s store (take (i + 1) numbers)) ≤ length (bytesOfPages s store (take total numbers)) = rw sum at (bytesOfPages-few s store numbers (i + 1) (total - (i + 1))) in
+      record {
+        header = omega arith;
+        source = omega (arith, f .fits);
+        room = omega (arith, k .long);
+        next = λ written e. record {
+          few = omega arith;
+          at-is = at-next;
+          long = ap length e ∙ length-sets value at (take m (drop (4 + 4 * n) b)) ∙ k .long;
+          value-is = rw (more, sets-append value₀ 0 before (valueBytes (pageAt s store p)), ← k .value-is, zero-plus before, k .at-is, ← bytes) e;
+        };
+      }
+    where
+      zero-plus : (l : List ℕ) → 0 + length l ≡ length l
+      zero-plus l = omega arith
+
+-- all pages are copied
+pub copying-done : {s : ℕ} {store numbers : List ℕ} {total : ℕ} {value₀ value : List ℕ} {i at : ℕ} → Copying s store numbers total value₀ value i at → total ≤ i
+    → value ≡ sets value₀ 0 (bytesOfPages s store (take total numbers))
+copying-done {s} {store} {numbers} {total} {value₀} {i = i} k h =
+    let e : i ≡ total = omega (arith, k .few) in
+    k .value-is ∙ ap (λ (j : ℕ). sets value₀ 0 (bytesOfPages s store (take j numbers))) e
