@@ -3,3 +3,4 @@ pub mod Lists
 pub mod Lookups
 pub mod Saves
 pub mod Totals
+pub mod Values

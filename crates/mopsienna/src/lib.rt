@@ -6,3 +6,4 @@ pub mod lists;
 pub mod lookups;
 pub mod saves;
 mod totals;
+pub mod values;

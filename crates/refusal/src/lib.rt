@@ -93,4 +93,12 @@ impl Refusal {
             Refusal::Bytes => 18,
         }
     }
+
+    // The number alone, for a call that returns no values.
+    pub fn number(self) -> u32
+        ensures { λ r. ⌜ r ≡ number self ⌝ }
+    {
+        let mut values: [u64; 8] = [0; 8];
+        self.report(&mut values)
+    }
 }

@@ -1,16 +1,12 @@
 -- `read_list` meets its contract: each arm knows what `read_list` answered, and it left the tables.
 -- Assumes nothing.
-use mathlib.Core.Path.{_≡_, refl, sym, ap, _∙_}
+use mathlib.Core.Path.{refl, ap}
 use Rattle.free_list.specs.Reading.{ReadEffect, readOutcome}
-use Rattle.free_list.specs.declared.read.ReadList.{ReadList}
 use Rattle.mopsienna.specs.Lists.{readListValues}
 use borrow.Author.Needs.{needs}
+use Rattle.mopsienna.proofs.OutcomeLaws.{outcome-is}
 use Rattle.mopsienna.proofs.lists.read_list.Statement.{statement}
 use Rattle.mopsienna.proofs.lists.read_list.Tie as tie
-
--- the outcome of a reading that answered r, which is q
-outcome-is : {r q : ReadList} {e f : ReadEffect} → e ≡ f → e .outcome ≡ readOutcome r → r ≡ q → f .outcome ≡ readOutcome q
-outcome-is p o t = sym (ap (λ (x : ReadEffect). x .outcome) p) ∙ o ∙ ap readOutcome t
 
 read-list-requires : tie.Need-read-list-requires
 read-list-requires c κs = search needs
@@ -40,7 +36,7 @@ returns : tie.Need-returns
 unfolding readListValues
 returns c =
     let e = c .before .before .before .before .before .before .before .read-list .ensures in
-    rw (outcome-is e refl (c .before .list .given .1)) (refl, (refl, (ap (λ (x : ReadEffect). x .pages) e, ap (λ (x : ReadEffect). x .entries) e)))
+    rw (outcome-is (λ (x : ReadEffect). x .outcome) readOutcome e refl (c .before .list .given .1)) (refl, (refl, (ap (λ (x : ReadEffect). x .pages) e, ap (λ (x : ReadEffect). x .entries) e)))
 
 same-length-3 : tie.Need-same-length-3
 same-length-3 c = search needs
@@ -52,7 +48,7 @@ returns-2 : tie.Need-returns-2
 unfolding readListValues
 returns-2 c =
     let e = c .before .before .before .before .before .before .before .before .before .read-list .ensures in
-    rw (outcome-is e refl (c .before .before .before .r .given .1)) (c .report .ensures .0, (c .report .ensures .1, (ap (λ (x : ReadEffect). x .pages) e, ap (λ (x : ReadEffect). x .entries) e)))
+    rw (outcome-is (λ (x : ReadEffect). x .outcome) readOutcome e refl (c .before .before .before .r .given .1)) (c .report .ensures .0, (c .report .ensures .1, (ap (λ (x : ReadEffect). x .pages) e, ap (λ (x : ReadEffect). x .entries) e)))
 
 pub read-list-spec : {M : Type 1} → statement M
 read-list-spec =

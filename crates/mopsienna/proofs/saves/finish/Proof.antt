@@ -1,17 +1,13 @@
 -- `finish` meets its contract: each arm knows what `finish_save` answered, and it left the tables, the buffer and the number list.
 -- Assumes nothing.
-use mathlib.Core.Path.{_≡_, refl, sym, ap, _∙_}
+use mathlib.Core.Path.{refl, ap}
 use Rattle.allocator.specs.Finish.{FinishEffect}
 use Rattle.allocator.specs.Answers.{finishOutcome}
-use Rattle.allocator.specs.declared.finish.Finishing.{Finishing}
 use Rattle.mopsienna.specs.Saves.{finishValues}
 use borrow.Author.Needs.{needs}
+use Rattle.mopsienna.proofs.OutcomeLaws.{outcome-is}
 use Rattle.mopsienna.proofs.saves.finish.Statement.{statement}
 use Rattle.mopsienna.proofs.saves.finish.Tie as tie
-
--- the outcome of a finish that answered r, which is q
-outcome-is : {r q : Finishing} {e f : FinishEffect} → e ≡ f → e .outcome ≡ finishOutcome r → r ≡ q → f .outcome ≡ finishOutcome q
-outcome-is p o t = sym (ap (λ (x : FinishEffect). x .outcome) p) ∙ o ∙ ap finishOutcome t
 
 finish-save-requires : tie.Need-finish-save-requires
 finish-save-requires c κs = search needs
@@ -68,7 +64,7 @@ returns : tie.Need-returns
 unfolding finishValues
 returns c =
     let e = c .before .before .before .before .before .before .before .before .before .before .before .before .before .before .finish-save .ensures in
-    rw (outcome-is e refl (c .before .before .before .before .meta .given .1)) (refl, (refl, (ap (λ (x : FinishEffect). x .pages) e, (ap (λ (x : FinishEffect). x .entries) e, (ap (λ (x : FinishEffect). x .buffer) e, ap (λ (x : FinishEffect). x .numbers) e)))))
+    rw (outcome-is (λ (x : FinishEffect). x .outcome) finishOutcome e refl (c .before .before .before .before .meta .given .1)) (refl, (refl, (ap (λ (x : FinishEffect). x .pages) e, (ap (λ (x : FinishEffect). x .entries) e, (ap (λ (x : FinishEffect). x .buffer) e, ap (λ (x : FinishEffect). x .numbers) e)))))
 
 same-length-5 : tie.Need-same-length-5
 same-length-5 c = search needs
@@ -86,7 +82,7 @@ returns-2 : tie.Need-returns-2
 unfolding finishValues
 returns-2 c =
     let e = c .before .before .before .before .before .before .before .before .before .before .before .before .before .finish-save .ensures in
-    rw (outcome-is e refl (c .before .before .before .r .given .1)) (c .report .ensures .0, (c .report .ensures .1, (ap (λ (x : FinishEffect). x .pages) e, (ap (λ (x : FinishEffect). x .entries) e, (ap (λ (x : FinishEffect). x .buffer) e, ap (λ (x : FinishEffect). x .numbers) e)))))
+    rw (outcome-is (λ (x : FinishEffect). x .outcome) finishOutcome e refl (c .before .before .before .r .given .1)) (c .report .ensures .0, (c .report .ensures .1, (ap (λ (x : FinishEffect). x .pages) e, (ap (λ (x : FinishEffect). x .entries) e, (ap (λ (x : FinishEffect). x .buffer) e, ap (λ (x : FinishEffect). x .numbers) e)))))
 
 pub finish-spec : {M : Type 1} → statement M
 finish-spec =
