@@ -1,17 +1,25 @@
-// The list operations of the C interface at a page size that the caller names, for the comparison with the Rust: small pages bring
+// The operations of the C interface at a page size that the caller names, for the comparison with the Rust: small pages bring
 // about in short lists what takes a million entries at 4,096 bytes. Not part of what hosts are given.
 ghost use mathlib.Core.Path.{_≡_};
 ghost use mathlib.Core.Bool.{true, false};
 ghost use Rattle.refusal.specs.Outcome.{status, filled};
 ghost use Rattle.free_list.specs.Reading.{readInto};
 ghost use Rattle.allocator.specs.Finish.{finishInto};
+ghost use Rattle.overflow.specs.ValuePages.{chunkInto};
+ghost use Rattle.overflow.specs.Reading.{readInto as readValueInto, deleteInto};
 ghost use Rattle.mopsienna.specs.Lists.{readListValues};
+ghost use Rattle.mopsienna.specs.Lookups.{lookupValues};
 ghost use Rattle.mopsienna.specs.Saves.{openSave, handOutValues, finishValues};
+ghost use Rattle.mopsienna.specs.Values.{writePageValues, readValueValues, deleteValueValues};
 ghost use Rattle.sized.specs.Sizes.{isPageSize};
 use allocator::save::Save;
 use mopsienna::lists::read_list;
+use mopsienna::lookups::lookup;
 use mopsienna::saves::finish;
 use mopsienna::saves::hand_out;
+use mopsienna::values::delete_value;
+use mopsienna::values::read_value;
+use mopsienna::values::write_value_page;
 use page::number::Allocations;
 
 // What is returned for a number that is no page size.
@@ -101,6 +109,76 @@ pub extern "C" fn sized_finish(
         numbers,
         out,
     )
+}
+
+#[no_mangle]
+pub extern "C" fn sized_write_value_page(
+    size: u64,
+    value: &[u8],
+    numbers: &[u32],
+    index: u64,
+    page: &mut [u8],
+) -> u32
+    ensures sized { λ r. ⌜ (isPageSize size ≡ true → (r ≡ status (writePageValues size (now (value .entry)) (now (numbers .entry)) index (now (page .entry)))) × (now (page .exit) ≡ chunkInto size (now (value .entry)) (now (numbers .entry)) index (now (page .entry)) .buffer)) ⌝ }
+    ensures refused { λ r. ⌜ (isPageSize size ≡ false → (r ≡ 255) × (now (page .exit) ≡ now (page .entry))) ⌝ }
+{
+    if !is_page_size(size) {
+        return NO_PAGE_SIZE;
+    }
+    write_value_page(size as usize, value, numbers, index, page)
+}
+
+#[no_mangle]
+pub extern "C" fn sized_read_value(
+    size: u64,
+    cell: &[u8],
+    store: &[u8],
+    numbers: &mut [u32],
+    value: &mut [u8],
+    out: &mut [u64; 8],
+) -> u32
+    ensures sized { λ r. ⌜ (isPageSize size ≡ true → (r ≡ status (readValueValues size (now (cell .entry)) (now (store .entry)) (now (numbers .entry)) (now (value .entry)))) × (now (out .exit) ≡ filled (now (out .entry)) (readValueValues size (now (cell .entry)) (now (store .entry)) (now (numbers .entry)) (now (value .entry)))) × (now (numbers .exit) ≡ readValueInto size (now (cell .entry)) (now (store .entry)) (now (numbers .entry)) (now (value .entry)) .numbers) × (now (value .exit) ≡ readValueInto size (now (cell .entry)) (now (store .entry)) (now (numbers .entry)) (now (value .entry)) .value)) ⌝ }
+    ensures refused { λ r. ⌜ (isPageSize size ≡ false → (r ≡ 255) × (now (out .exit) ≡ now (out .entry)) × (now (numbers .exit) ≡ now (numbers .entry)) × (now (value .exit) ≡ now (value .entry))) ⌝ }
+{
+    if !is_page_size(size) {
+        return NO_PAGE_SIZE;
+    }
+    read_value(size as usize, cell, store, numbers, value, out)
+}
+
+#[no_mangle]
+pub extern "C" fn sized_delete_value(
+    size: u64,
+    cell: &[u8],
+    store: &[u8],
+    numbers: &mut [u32],
+    out: &mut [u64; 8],
+) -> u32
+    ensures sized { λ r. ⌜ (isPageSize size ≡ true → (r ≡ status (deleteValueValues size (now (cell .entry)) (now (store .entry)) (now (numbers .entry)))) × (now (out .exit) ≡ filled (now (out .entry)) (deleteValueValues size (now (cell .entry)) (now (store .entry)) (now (numbers .entry)))) × (now (numbers .exit) ≡ deleteInto size (now (cell .entry)) (now (store .entry)) (now (numbers .entry)) .numbers)) ⌝ }
+    ensures refused { λ r. ⌜ (isPageSize size ≡ false → (r ≡ 255) × (now (out .exit) ≡ now (out .entry)) × (now (numbers .exit) ≡ now (numbers .entry))) ⌝ }
+{
+    if !is_page_size(size) {
+        return NO_PAGE_SIZE;
+    }
+    delete_value(size as usize, cell, store, numbers, out)
+}
+
+#[no_mangle]
+pub extern "C" fn sized_lookup(
+    size: u64,
+    numbers: &[u32],
+    pending: &[u8],
+    store: &[u8],
+    page: u32,
+    out: &mut [u64; 8],
+) -> u32
+    ensures sized { λ r. ⌜ (isPageSize size ≡ true → (r ≡ status (lookupValues size (now (numbers .entry)) (now (pending .entry)) (now (store .entry)) page)) × (now (out .exit) ≡ filled (now (out .entry)) (lookupValues size (now (numbers .entry)) (now (pending .entry)) (now (store .entry)) page))) ⌝ }
+    ensures refused { λ r. ⌜ (isPageSize size ≡ false → (r ≡ 255) × (now (out .exit) ≡ now (out .entry))) ⌝ }
+{
+    if !is_page_size(size) {
+        return NO_PAGE_SIZE;
+    }
+    lookup(size as usize, numbers, pending, store, page, out)
 }
 
 // Whether this is a page size.
