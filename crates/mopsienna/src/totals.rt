@@ -3,7 +3,6 @@ ghost use mathlib.Core.Path.{_≡_};
 ghost use Rattle.refusal.specs.Outcome.{status, filled};
 ghost use Rattle.page.specs.PageSize.{pageSize};
 ghost use Rattle.mopsienna.specs.Totals.{growValues, totalValues};
-use overflow::total::PageTotal;
 use overflow::total::Totalled;
 use page::growth::Grown;
 use page::number::PageNumber;

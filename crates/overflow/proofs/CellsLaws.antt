@@ -63,6 +63,7 @@ pub record Decoding (b : List ℕ) (k : CellCounts) : Type 0 where
   pub long : cellHeader + 4 ≤ length b
   pub read : decodeCell b ≡ answer (cellOf b)
   pub counts : countsOf (cellOf b) ≡ k
+  pub few : cellOf b .size ≤ maxSize
 
 -- what a call leaves
 abbrev effect : Outcome CellCounts → List ℕ → DecodeEffect
@@ -70,7 +71,7 @@ effect outcome hash = record { outcome = outcome; hash = hash }
 
 module _ (b : List ℕ) where
   pub decoding : (k : CellCounts) → answer k ≡ cellCounts b → Decoding b k
-  unfolding cellCounts decodeCell
+  unfolding cellCounts decodeCell cellOf
   decoding k e =
       let w = withAnswer-answer (λ c. answer (countsOf c)) (decodeCell b) (sym e) in
       let t = check-answer (leb (cellHeader + 4) (length b) && eqb (length b % 4) 0) 12 [] _ (w .1) in
@@ -81,6 +82,7 @@ module _ (b : List ℕ) where
         long = leb-true (cellHeader + 4) (length b) (and-true (leb (cellHeader + 4) (length b)) (eqb (length b % 4) 0) (t .0) .0);
         read = w .1 ∙ ap answer (sym whole);
         counts = ap countsOf whole ∙ same;
+        few = leb-true (cellSize b) maxSize (u .0);
       }
 
   module _ (hash : List ℕ) where

@@ -1,5 +1,5 @@
 -- Copying the value bytes of pages, one page after another.
-use Prim.Native.Nat.{ℕ, zero, suc, _+_, _*_, _-_, _<_, _≤_}
+use Prim.Native.Nat.{ℕ, suc, _+_, _*_, _-_, _<_, _≤_}
 use mathlib.Core.Path.{_≡_, refl, sym, _∙_, ap}
 use mathlib.Core.List.{List, [], _∷_, _++_, append-assoc, append-nil}
 use native.Mathlib.Numerals.{add-one}
@@ -11,7 +11,7 @@ use Rattle.page.specs.Pages.{pageAt}
 use Rattle.page.proofs.PageSizeLaws.{page-least}
 use Rattle.page.proofs.SetsLaws.{sets-append}
 use Rattle.overflow.specs.ValuePages.{numberCount, byteCount, valueBytes}
-use Rattle.overflow.specs.Steps.{bytesOfPages, PageFits, PagesFit}
+use Rattle.overflow.specs.Steps.{bytesOfPages, PagesFit}
 use Rattle.overflow.proofs.WalkLaws.{page-long, length-valueBytes}
 
 module _ (s : ℕ) (store : List ℕ) where

@@ -1,23 +1,24 @@
 -- Reading and deleting, way by way: what each refusal and each answer leaves, in the numbers of the code.
-use Prim.Native.Nat.{ℕ, zero, suc, _+_, _*_, _-_, _%_, _<_, _≤_}
-use mathlib.Core.Path.{_≡_, refl, sym, _∙_, ap, ap₂}
+use Prim.Native.Nat.{ℕ, _+_, _-_, _<_, _≤_}
+use mathlib.Core.Path.{_≡_, refl, sym, _∙_, ap}
 use mathlib.Core.Logic.{_≢_}
-use mathlib.Core.Bool.{Bool, true, false, _&&_, cond}
-use mathlib.Core.List.{List, [], _∷_, _++_}
+use mathlib.Core.Bool.{Bool, true, false, _&&_}
+use mathlib.Core.List.{List, []}
 use native.Mathlib.Omega.{arith}
-use borrow.Author.Tests.{le-leb, lt-leb, eq-eqb, ne-eqb, leb-true}
-use lib.Dec.{leb, eqb}
-use lib.ListN.{length, getD, take, drop, length-take}
+use borrow.Author.Tests.{le-leb, lt-leb, eq-eqb, ne-eqb}
+use lib.Dec.{leb}
+use lib.ListN.{length, take}
 use lib.Seq.{sets, length-sets, take-all, getD-take}
 use Rattle.refusal.specs.Outcome.{Outcome, answer, refused}
-use Rattle.refusal.proofs.Cases.{check-answer, and-true, withAnswer-answer, withAnswer-refused}
+use Rattle.refusal.proofs.Cases.{withAnswer-refused}
 use Rattle.page.specs.PageSize.{PageSize}
 use Rattle.page.proofs.SetsLaws.{take-sets}
 use Rattle.overflow.specs.Totals.{maxSize, totalPages}
-use Rattle.overflow.specs.Cells.{Cell, cellHeader, cellSize, cellOf, decodeCell, CellCounts, countsOf, cellCounts}
-use Rattle.overflow.specs.Reading.{Found, Walked, ended, stopped, walk, walkCell, foundBy, tableAfter, admitted, wholeValue, ValueCounts, ReadEffect, readCell, readInto, allNumbers, DeleteEffect, deleteCell, deleteInto}
-use Rattle.overflow.specs.Steps.{Parts, walkFrom, walkCounts, Walkable, bytesOfPages, PageFits, PagesFit}
+use Rattle.overflow.specs.Cells.{Cell, cellHeader, cellOf, decodeCell, CellCounts, countsOf, cellCounts}
+use Rattle.overflow.specs.Reading.{Found, Walked, ended, stopped, walk, walkCell, foundBy, tableAfter, admitted, wholeValue, ValueCounts, ReadEffect, readCell, readInto, allNumbers, deleteCell, deleteInto}
+use Rattle.overflow.specs.Steps.{Parts, walkFrom, walkCounts, Walkable, bytesOfPages, PagesFit}
 use Rattle.overflow.proofs.TotalsLaws.{total-small}
+use Rattle.overflow.proofs.CellsLaws.{decoding}
 use Rattle.overflow.proofs.WalkLaws.{walk-visited}
 
 -- ---- the cell
@@ -31,20 +32,10 @@ pub record Celled (cell : List ℕ) (size : ℕ) : Type 0 where
 
 module _ (cell : List ℕ) where
   pub celled : {size numbers : ℕ} → answer (record { size = size; numbers = numbers }) ≡ cellCounts cell → Celled cell size
-  unfolding cellCounts decodeCell cellOf
   celled {size} {numbers} e =
-      let w = withAnswer-answer (λ c. answer (countsOf c)) (decodeCell cell) (sym e) in
-      let x = check-answer (leb (cellHeader + 4) (length cell) && eqb (length cell % 4) 0) 12 [] _ (w .1) in
-      let y = check-answer (leb (cellSize cell) maxSize) 10 [] _ (x .1) in
-      let same : cellOf cell ≡ w .0 = cc in
-      let counts : _≡_ {A = CellCounts} (countsOf (w .0)) (record { size = size; numbers = numbers }) = cc in
-      let size-is : size ≡ cellOf cell .size = sym (ap (λ (q : CellCounts). q .size) counts) ∙ sym (ap (λ (c : Cell). c .size) same) in
-      record {
-        reads = w .1 ∙ ap answer (sym same);
-        size-is = size-is;
-        few = omega (arith, leb-true (cellSize cell) maxSize (y .0));
-        header = leb-true (cellHeader + 4) (length cell) (and-true _ _ (x .0) .0);
-      }
+      let d = decoding cell (record { size = size; numbers = numbers }) e in
+      let size-is : size ≡ cellOf cell .size = ap (λ (k : CellCounts). k .size) (sym (d .counts)) in
+      record { reads = d .read; size-is = size-is; few = omega (arith, d .few); header = d .long }
 
   module _ (room : Cell → Bool) where
     pub admitted-refused : {n : ℕ} {vs : List ℕ} → refused n vs ≡ cellCounts cell → refused n vs ≡ admitted room cell

@@ -1,7 +1,7 @@
 -- The walk over the pages of a value: what it finds after so many pages, and how it goes on from there.
 use Prim.Native.Nat.{ℕ, zero, suc, _+_, _*_, _-_, _<_, _≤_}
 use mathlib.Core.Path.{_≡_, refl, sym, _∙_, ap}
-use mathlib.Core.Bool.{Bool, true, false, _&&_, cond}
+use mathlib.Core.Bool.{Bool, false, _&&_, cond}
 use mathlib.Core.List.{List, [], _∷_, _++_, append-nil, append-assoc}
 use native.Mathlib.Decide.{decLt}
 use native.Mathlib.Nat.{zero-add, le-of-suc-le-suc, not-suc-le-zero}
@@ -9,10 +9,9 @@ use native.Mathlib.Omega.{arith}
 use borrow.Author.Tests.{le-ltb, lt-ltb, lt-leb, le-leb, ltb-true, leb-true}
 use lib.Dec.{leb, ltb}
 use lib.ListN.{length, getD, take, drop, length-append, length-take, length-drop, List·getD-append}
-use lib.Seq.{sets, sets-eq, length-sets, length-take-le, take-all, take-append-le, take-append-add, getD-take, drop-cons}
+use lib.Seq.{sets, sets-eq, length-take-le, take-all, take-append-le, take-append-add, getD-take, drop-cons}
 use Rattle.refusal.specs.Outcome.{Outcome, answer, refused}
 use Rattle.refusal.proofs.Cases.{check-answer, withAnswer-answer, withAnswer-refused}
-use Rattle.page.specs.Bytes.{numbersAt}
 use Rattle.page.specs.PageSize.{PageSize}
 use Rattle.page.specs.Pages.{pageCount, pageAt}
 use Rattle.page.proofs.BytesLaws.{length-numbersAt}

@@ -1,13 +1,12 @@
 -- Where the code's walk stands after i pages, and how one page more changes that.
-use Prim.Native.Nat.{ℕ, zero, suc, _+_, _*_, _-_, _<_, _≤_}
+use Prim.Native.Nat.{ℕ, suc, _+_, _*_, _-_, _<_, _≤_}
 use mathlib.Core.Path.{_≡_, refl, sym, _∙_, ap}
 use mathlib.Core.Bool.{Bool, true, false, _&&_, cond}
-use mathlib.Core.List.{List, [], _∷_, _++_}
+use mathlib.Core.List.{List, [], _∷_}
 use native.Mathlib.Nat.{sub-zero}
 use native.Mathlib.Numerals.{add-one}
 use native.Mathlib.Omega.{arith}
-use borrow.Author.Tests.{le-ltb, lt-ltb, lt-leb, le-leb}
-use lib.Dec.{leb, ltb}
+use lib.Dec.{leb}
 use lib.ListN.{length, getD, take, length-append, length-take}
 use lib.Seq.{sets, length-sets}
 use Rattle.refusal.specs.Outcome.{Outcome, answer, refused}
@@ -16,11 +15,10 @@ use Rattle.page.specs.PageSize.{PageSize}
 use Rattle.page.specs.Pages.{pageAt}
 use Rattle.page.proofs.BytesLaws.{length-numbersAt}
 use Rattle.page.proofs.SetsLaws.{sets-over}
-use Rattle.overflow.specs.Totals.{maxSize}
-use Rattle.overflow.specs.ValuePages.{numberCount, byteCount, valueNumbers, valueBytes}
+use Rattle.overflow.specs.ValuePages.{numberCount, byteCount, valueNumbers}
 use Rattle.overflow.specs.Cells.{cellHeader, cellCount, cellOf}
-use Rattle.overflow.specs.Reading.{parsePage, Found, withPage, Walked, ended, stopped, walk, foundBy}
-use Rattle.overflow.specs.Steps.{Parts, walkFrom, walkCounts, Walkable, pageParts, PageFits, foundAfter}
+use Rattle.overflow.specs.Reading.{Found, withPage, ended, stopped, walk, foundBy}
+use Rattle.overflow.specs.Steps.{Parts, walkFrom, walkCounts, pageParts, PageFits, foundAfter}
 use Rattle.overflow.proofs.WalkLaws.{sets-queued, getD-queued, parse-fits, parts-found, parts-few, parts-refused, length-valueBytes, length-valueNumbers, walk-unknown, walk-unfit, walk-page}
 
 -- what a cell's bytes give to begin with

@@ -8,8 +8,6 @@ ghost use lib.Seq.{sets};
 ghost use Rattle.page.specs.Bytes.{numbersAt};
 ghost use Rattle.page.specs.PageSize.{PageSize};
 ghost use Rattle.page.specs.Pages.{pageCount};
-ghost use Rattle.overflow.specs.Totals.{maxSize};
-ghost use Rattle.overflow.specs.Cells.{cellOf};
 ghost use Rattle.overflow.specs.Reading.{foundBy};
 ghost use Rattle.overflow.specs.Steps.{pageParts, parsedOutcome, Walkable, walkFrom, walkCounts, walkedOutcome};
 use crate::value_page::byte_count;

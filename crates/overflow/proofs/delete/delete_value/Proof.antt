@@ -1,8 +1,6 @@
 -- `delete_value` meets its contract: each return is one law of deleting.
 -- Assumes nothing.
-use Prim.Native.Nat.{ℕ, _<_, _≤_}
-use mathlib.Core.Path.{_≡_, refl, sym, ap, _∙_}
-use native.Mathlib.Omega.{arith}
+use mathlib.Core.Path.{sym, ap, _∙_}
 use lib.Dec.{leb}
 use lib.ListN.{length}
 use Rattle.overflow.specs.Totals.{totalPages}

@@ -1,7 +1,7 @@
 -- `copy_value` meets its contract. The loop's invariant is `Copying`: the bytes of the first i pages stand in the buffer.
 -- Assumes nothing.
-use Prim.Native.Nat.{ℕ, _+_, _*_, _-_, _<_, _≤_}
-use mathlib.Core.Path.{_≡_, refl, sym, ap, _∙_}
+use Prim.Native.Nat.{_-_}
+use mathlib.Core.Path.{refl}
 use native.Mathlib.Omega.{arith}
 use Rattle.overflow.proofs.CopyingLaws.{Copying, copying-start, copied, copying-done}
 use borrow.Author.Needs.{needs}

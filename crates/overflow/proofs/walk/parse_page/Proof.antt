@@ -1,13 +1,8 @@
 -- `parse_page` meets its contract: each return is one of the page's tests.
 -- Assumes nothing.
-use Prim.Native.Nat.{ℕ, _+_, _*_, _-_, _≤_, _<_}
-use mathlib.Core.Path.{_≡_, ap, sym, _∙_}
+use Prim.Native.Nat.{_-_}
 use native.Mathlib.Omega.{arith}
-use lib.ListN.{length}
-use Rattle.page.specs.PageSize.{PageSize}
-use Rattle.page.specs.Pages.{pageCount, pageAt}
 use Rattle.page.proofs.PageSizeLaws.{page-least}
-use Rattle.overflow.specs.ValuePages.{numberCount, byteCount}
 use Rattle.overflow.proofs.WalkLaws.{page-long, parts-missing, parts-unfit, parts-fit}
 use borrow.Author.Needs.{needs}
 use borrow.Author.Needs.{needs}

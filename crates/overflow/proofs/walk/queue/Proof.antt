@@ -1,10 +1,10 @@
 -- `queue` meets its contract: the numbers read are the first ones, as many as there is room for.
 -- Assumes nothing.
 use Prim.Native.Nat.{_-_, _≤_}
-use mathlib.Core.Path.{_≡_, sym, _∙_, ap}
+use mathlib.Core.Path.{_≡_}
 use native.Mathlib.Omega.{arith}
-use lib.ListN.{length, take}
-use lib.Seq.{sets, take-all}
+use lib.ListN.{length}
+use lib.Seq.{take-all}
 use Rattle.page.specs.Bytes.{numbersAt}
 use Rattle.page.proofs.BytesLaws.{take-numbersAt, length-numbersAt}
 use borrow.Author.Needs.{needs}

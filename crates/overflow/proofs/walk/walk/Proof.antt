@@ -1,11 +1,8 @@
 -- `walk` meets its contract. The loop's invariant is `Walking`: the counts and the table say what is found after i pages, and the rest
 -- of the walk is what is left to do. The measure is the pages left. Assumes nothing.
-use Prim.Native.Nat.{ℕ, _+_, _*_, _-_, _/_, _<_, _≤_}
-use mathlib.Core.Path.{_≡_, refl, sym, ap, _∙_}
-use mathlib.Core.Bool.{Bool, true, false, _&&_}
+use Prim.Native.Nat.{_-_}
+use mathlib.Core.Path.{refl, sym, ap, _∙_}
 use native.Mathlib.Omega.{arith}
-use lib.ListN.{length}
-use Rattle.page.specs.PageSize.{PageSize}
 use Rattle.overflow.specs.Cells.{cellCount}
 use Rattle.overflow.specs.Steps.{parsedOutcome}
 use Rattle.overflow.proofs.WalkLaws.{parts-found, parts-few, parts-room}
