@@ -28,16 +28,24 @@ extern "C" {
 
 /* Refusals. The numbers are fixed; each function names those that it returns. */
 enum {
-    MOPSIENNA_STATE = 1,     /* an open save that cannot stand */
-    MOPSIENNA_LIST_PAGE = 2, /* a list page number at or past the store's page count */
-    MOPSIENNA_COUNT = 3,     /* the count on a list page does not fit its place */
-    MOPSIENNA_ENTRY = 4,     /* a list entry is 0 or at or past the page count */
-    MOPSIENNA_CHAIN = 5,     /* a list that has not ended after as many pages as the store has */
-    MOPSIENNA_TABLES = 6,    /* list tables shorter than the list */
-    MOPSIENNA_LIMIT = 7,     /* a number or a bump above its limit */
-    MOPSIENNA_FREED = 8,     /* a freed number that is 0 or not below the bump */
-    MOPSIENNA_BUFFER = 9,    /* a page buffer or number list that is too short */
-    MOPSIENNA_SIZE = 10      /* a size of 0, or above 2^29 */
+    MOPSIENNA_STATE = 1,       /* an open save that cannot stand */
+    MOPSIENNA_LIST_PAGE = 2,   /* a list page number at or past the store's page count */
+    MOPSIENNA_COUNT = 3,       /* the count on a list page does not fit its place */
+    MOPSIENNA_ENTRY = 4,       /* a list entry is 0 or at or past the page count */
+    MOPSIENNA_CHAIN = 5,       /* a list that has not ended after as many pages as the store has */
+    MOPSIENNA_TABLES = 6,      /* list tables shorter than the list */
+    MOPSIENNA_LIMIT = 7,       /* a number or a bump above its limit */
+    MOPSIENNA_FREED = 8,       /* a freed number that is 0 or not below the bump */
+    MOPSIENNA_BUFFER = 9,      /* a page buffer or number list that is too short */
+    MOPSIENNA_SIZE = 10,       /* a size of 0, or above 2^29 */
+    MOPSIENNA_INDEX = 11,      /* not as many numbers as the total, or a page index not below it */
+    MOPSIENNA_CELL = 12,       /* a cell under 44 bytes, or no multiple of 4 */
+    MOPSIENNA_ROOM = 13,       /* a value or cell buffer or a number table that is too short */
+    MOPSIENNA_UNKNOWN = 14,    /* a walk over a value's pages that knows no number to go on */
+    MOPSIENNA_MISSING = 15,    /* a page that lies past the store */
+    MOPSIENNA_VALUE_PAGE = 16, /* a value page that claims more than its body */
+    MOPSIENNA_NUMBERS = 17,    /* the numbers found are not as many as the total */
+    MOPSIENNA_BYTES = 18       /* the bytes found are not as many as the size */
 };
 
 /* The largest page number that a store grows for, and the largest bump. */
@@ -152,6 +160,117 @@ uint32_t mopsienna_finish(uint32_t bump, uint32_t length, uint64_t P, uint64_t L
  * Refusals: 10 for a size of 0 or above MOPSIENNA_MAX_SIZE.
  */
 uint32_t mopsienna_total(uint64_t size, uint64_t out[8]);
+
+/*
+ * A value is kept on `total` overflow pages (mopsienna_total), and a cell leads to them. Its writer
+ * gets a number for each page (mopsienna_hand_out), writes the pages one by one, and keeps the cell.
+ *
+ * A value page has the count of its numbers in bytes 0-1, the count of its value bytes in bytes 2-3,
+ * then the numbers, 4 bytes each, then the value bytes; all little-endian. The numbers of the pages
+ * after the 15th fill the pages in order, up to 1,023 each, and value bytes take the room left.
+ *
+ * A cell has the value's size in its first 8 bytes, then a hash of 32 bytes, which is carried and not
+ * looked at, then the numbers of the first pages, 15 at most.
+ */
+
+/*
+ * Writes page `index` of a value, 4,096 bytes, to the start of `page`. `numbers` are the numbers of
+ * all its pages. Bytes past the value's are zero; those of `page` past 4,096 stay as they were, and
+ * after a refusal all do.
+ *
+ * Refusals, in this order:
+ *   10  the value has no byte, or more than MOPSIENNA_MAX_SIZE
+ *   11  there are not `total` numbers, or `index` is not below the total
+ *   9   `page` is shorter than 4,096 bytes
+ */
+uint32_t mopsienna_write_value_page(const uint8_t *value, size_t value_len, const uint32_t *numbers,
+                                    size_t numbers_len, uint64_t index, uint8_t *page,
+                                    size_t page_len);
+
+/*
+ * Writes a cell of 40 bytes and 4 for each number to the start of `cell`. Its other bytes stay as
+ * they were, and after a refusal all do. Any size up to MOPSIENNA_MAX_SIZE and any count of numbers
+ * is taken; the cell of a value has the first 15 of its numbers, or all of them where it has fewer.
+ *
+ * Refusals, in this order:
+ *   10  the size is above MOPSIENNA_MAX_SIZE
+ *   13  `cell` is too short
+ */
+uint32_t mopsienna_encode_cell(uint64_t size, const uint8_t hash[32], const uint32_t *numbers,
+                               size_t numbers_len, uint8_t *cell, size_t cell_len);
+
+/*
+ * Reads a cell.
+ *
+ *   hash    the hash
+ *   out[0]  the value's size
+ *   out[1]  how many numbers the cell has
+ *
+ * After a refusal `hash` is as it was.
+ *
+ * Refusals, in this order:
+ *   12  the cell has fewer than 44 bytes, or no multiple of 4
+ *   10  its size is above MOPSIENNA_MAX_SIZE
+ */
+uint32_t mopsienna_decode_cell(const uint8_t *cell, size_t cell_len, uint8_t hash[32],
+                               uint64_t out[8]);
+
+/*
+ * Reads the value of a cell. Its `total` pages are walked in the order of their numbers: those of the
+ * cell, and behind them those of each page. Every chain of pages that has `total` numbers and `size`
+ * bytes in the end is read, whoever wrote it.
+ *
+ *   out[0]  the size: value[0 .. size] holds the value
+ *   out[1]  how many numbers were found, which is the total: numbers[0 .. total] holds them
+ *
+ * The other places of both stay as they were. A refusal leaves `value` as it was. Refusals 14 to 18
+ * leave in `numbers` the first `total` of those that were found before, and none from the page that
+ * was refused; the other refusals leave it as it was.
+ *
+ * Refusals, in this order:
+ *   12  the cell has fewer than 44 bytes, or no multiple of 4
+ *   10  its size is 0 or above MOPSIENNA_MAX_SIZE
+ *   13  `numbers` is shorter than the total, or `value` than the size
+ * then page by page, with the page's index in the walk in out[0],
+ *   14  no number is known for the page
+ *   15  the page lies past the store
+ *   16  the page's numbers and bytes do not fit its 4,092 bytes
+ * and behind them all
+ *   17  the numbers found are not as many as the total
+ *   18  the bytes found are not as many as the size
+ */
+uint32_t mopsienna_read_value(const uint8_t *cell, size_t cell_len, const uint8_t *store,
+                              size_t store_len, uint32_t *numbers, size_t numbers_len,
+                              uint8_t *value, size_t value_len, uint64_t out[8]);
+
+/*
+ * Collects the numbers of the pages of a cell's value, so that they can be freed. They are found as
+ * in mopsienna_read_value, but the walk ends with the first page that has value bytes: those behind it
+ * have no numbers.
+ *
+ *   out[0]  how many numbers were found, which is the total: numbers[0 .. total] holds them
+ *
+ * Refusals: those of mopsienna_read_value, without 18 and without a value buffer in 13.
+ */
+uint32_t mopsienna_delete_value(const uint8_t *cell, size_t cell_len, const uint8_t *store,
+                                size_t store_len, uint32_t *numbers, size_t numbers_len,
+                                uint64_t out[8]);
+
+/*
+ * Where a page is to be read from while a save is under way: its pending pages lie one after another
+ * in `pending`, each with its number in `numbers`; the first with this number is taken, and else the
+ * store's page.
+ *
+ *   out[0]  0 for `pending`, 1 for `store`
+ *   out[1]  the byte there at which the page's 4,096 bytes start
+ *
+ * Refusals, in this order:
+ *   9   `pending` is shorter than 4,096 bytes for each number
+ *   15  the page is not pending and lies past the store; out[0] is the page
+ */
+uint32_t mopsienna_lookup(const uint32_t *numbers, size_t numbers_len, const uint8_t *pending,
+                          size_t pending_len, const uint8_t *store, size_t store_len, uint32_t page,
+                          uint64_t out[8]);
 
 #ifdef __cplusplus
 }
