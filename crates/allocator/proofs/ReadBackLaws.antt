@@ -17,6 +17,7 @@ use Rattle.refusal.proofs.Cases.{check-answer, cond-cases, and-true, or-true}
 use Rattle.page.specs.PageSize.{PageSize, capacity}
 use Rattle.page.specs.Pages.{pageCount, pageAt, writePage, writePages}
 use Rattle.page.specs.Growth.{maxBump}
+use Rattle.page.proofs.PlacesLaws.{at-places}
 use Rattle.page.proofs.PageSizeLaws.{page-least}
 use Rattle.page.proofs.PagesLaws.{page-within, pageCount-mono, pageCount-fits, length-written, page-same, page-other}
 use Rattle.preallocate.specs.Plan.{Plan, planOf}
@@ -588,24 +589,6 @@ module _ (s : ℕ) (m : FreeList) (long : (j : ℕ) → j < length (m .pages) �
         go (no ne) rest = rest (omega arith) (omega arith)
 
 -- ---- the new list reads back
-
-mem-place : (x : ℕ) (ns : List ℕ) → List·Memᴰ x ns → (i : ℕ) × (i < length ns) × (x ≡ getD ns i 0)
-mem-place x [] m = absurd (List·Memᴰ·not-nil m)
-mem-place x (n ∷ ns) m = go (List·Memᴰ·cases-cons m) (mem-place x ns)
-  where
-    next : (i : ℕ) × (i < length ns) × (x ≡ getD ns i 0) → (i : ℕ) × (i < suc (length ns)) × (x ≡ getD (n ∷ ns) i 0)
-    next (i, h, e) = (suc i, omega arith, e)
-
-    go : (x ≡ n) ⊎ List·Memᴰ x ns → (List·Memᴰ x ns → (i : ℕ) × (i < length ns) × (x ≡ getD ns i 0)) → (i : ℕ) × (i < suc (length ns)) × (x ≡ getD (n ∷ ns) i 0)
-    go (inl e) rest = (0, omega arith, e)
-    go (inr h) rest = next (rest h)
-
--- all numbers of a list have what its places have
-at-places : (Q : ℕ → Type 0) (ns : List ℕ) → ((j : ℕ) → j < length ns → Q (getD ns j 0)) → (x : ℕ) → List·Memᴰ x ns → Q x
-at-places Q ns f x m = go (mem-place x ns m)
-  where
-    go : (i : ℕ) × (i < length ns) × (x ≡ getD ns i 0) → Q x
-    go (i, h, e) = rw e (f i h)
 
 module _ (s : ℕ) (size : PageSize s) (l : FreeList) (k : ℕ) (freed : List ℕ) (bump : ℕ) (store : List ℕ) (held : Held s store l) (sound : Sound l bump)
     (kL : k ≤ length (l .entries)) (changed : eqb k 0 && eqb (length freed) 0 ≡ false) (limit : planOf (capacity s) l k freed bump .bump ≤ 2 ^ 32 - 1) where
