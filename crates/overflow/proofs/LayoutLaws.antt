@@ -4,7 +4,7 @@ use mathlib.Core.Path.{_≡_, refl}
 use native.Mathlib.Nat.{mul-suc, mul-zero, add-zero, add-suc, mul-le-mul-right}
 use native.Mathlib.Omega.{arith}
 use Rattle.page.specs.PageSize.{PageSize}
-use Rattle.page.proofs.PageSizeLaws.{page-least}
+use Rattle.page.proofs.PageSizeLaws.{page-least, page-words}
 use Rattle.overflow.specs.Totals.{cellNumbers, body, totalPages}
 use Rattle.overflow.specs.Layout.{numbersPerPage, numbersBefore, numbersOn, bytesBefore, bytesOn}
 use Rattle.overflow.proofs.TotalsLaws.{total-enough, total-tight}
@@ -29,6 +29,12 @@ module _ {s : ℕ} (total : ℕ) (page : PageSize s) where
   numbers-all =
       let one : 1 ≤ numbersPerPage s = omega (arith, page-least page) in
       rw numbersBefore-is (omega (arith, mul-le-mul-right total one))
+
+  -- the number of page i stands in the cell or on a page before it
+  pub number-before : (i : ℕ) → i < total → i < cellNumbers + numbersBefore s total i
+  number-before i h =
+      let one : 1 ≤ numbersPerPage s = omega (arith, page-least page) in
+      rw numbersBefore-is (omega (arith, mul-le-mul-right i one))
 
   -- the numbers fit the bodies, on the pages before page i and on page i
   pub numbers-fit : (i : ℕ) → 4 * numbersBefore s total i ≤ body s * i
@@ -68,6 +74,17 @@ module _ {s : ℕ} (total : ℕ) (page : PageSize s) where
   pub page-fits : (size i : ℕ) → 4 * numbersOn s total i + bytesOn s total size i ≤ body s
   unfolding bytesOn
   page-fits size i = omega (arith, numbersOn-fit i)
+
+  -- a page that has not only numbers has the last of them
+  numbersOn-rest : (i : ℕ) → 4 * numbersOn s total i < body s → numbersOn s total i ≡ total - cellNumbers - numbersBefore s total i
+  unfolding numbersOn
+  numbersOn-rest i h = omega (arith, page-words page)
+
+  -- so up to a page with value bytes there are all
+  pub numbers-done : (size i : ℕ) → 1 ≤ bytesOn s total size i → numbersBefore s total (suc i) ≡ total - cellNumbers
+  numbers-done size i some =
+      let rest = numbersOn-rest i (omega (arith, page-fits size i)) in
+      rw numbersBefore-suc (omega (arith, numbers-within i))
 
   -- all bytes stand on the pages, where these have room
   pub bytes-all : (size : ℕ) → size + 4 * (total - cellNumbers) ≤ body s * total → bytesBefore s total size total ≡ size

@@ -9,3 +9,4 @@ pub mod WalkLaws
 pub mod WalkingLaws
 pub mod CopyingLaws
 pub mod ReadLaws
+pub mod ReadBackLaws

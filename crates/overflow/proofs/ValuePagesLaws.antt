@@ -94,7 +94,7 @@ module _ (s : ℕ) (ns bs : List ℕ) where
 -- ---- the pages of a value
 
 -- an element of a part is one of the whole
-part-mem : (x a b : ℕ) (ns : List ℕ) → List·Memᴰ x (take a (drop b ns)) → List·Memᴰ x ns
+pub part-mem : (x a b : ℕ) (ns : List ℕ) → List·Memᴰ x (take a (drop b ns)) → List·Memᴰ x ns
 part-mem x a b ns m =
     subst (List·Memᴰ x) (take-append-drop b ns) (Memᴰ·append-right (take b ns) (subst (List·Memᴰ x) (take-append-drop a (drop b ns)) (Memᴰ·append-left (drop a (drop b ns)) m)))
 
