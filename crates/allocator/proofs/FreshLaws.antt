@@ -1,22 +1,18 @@
 -- What a finish takes for its list pages: entries that stood above those it leaves, and numbers past the bump; a top page that keeps
 -- its old number is a whole one.
-use Prim.Native.Nat.{ℕ, zero, suc, _*_, _-_, _<_, _≤_}
-use native.Mathlib.Nat.{le-of-suc-le-suc, not-suc-le-zero, mul-le-mul-left}
+use Prim.Native.Nat.{ℕ, suc, _*_, _-_, _<_, _≤_}
+use native.Mathlib.Nat.{mul-le-mul-left}
 use native.Mathlib.Decide.{ℕ-discrete}
 use native.Mathlib.Omega.{arith}
 use mathlib.Core.Path.{_≡_, refl}
 use mathlib.Core.Logic.{_⊎_, inl, inr}
 use mathlib.Core.Bool.{true}
-use mathlib.Core.List.{List, [], _∷_, _++_, List·Memᴰ, List·Memᴰ·head, List·Memᴰ·tail, List·Memᴰ·append-cases, List·Memᴰ·cases-cons, List·Memᴰ·not-nil, Memᴰ·cast}
+use mathlib.Core.List.{List, [], _∷_, _++_, List·Memᴰ, List·Memᴰ·append-cases, List·Memᴰ·cases-cons, List·Memᴰ·not-nil, Memᴰ·cast}
 use lib.ListN.{length, getD}
+use Rattle.page.proofs.PlacesLaws.{getD-mem}
 use Rattle.free_list.specs.Shape.{FreeList, isShape}
 use Rattle.preallocate.specs.Plan.{Plan, pagesAfter, pushedAfter, emptied, swapTop, takeEntry, takeLast, takeBump, planOf}
 use Rattle.allocator.proofs.PushLaws.{Bounded, FirstCases, TurnCases, plan-run, plan-pushes}
-
-pub getD-mem : (ns : List ℕ) (i : ℕ) → i < length ns → List·Memᴰ (getD ns i 0) ns
-getD-mem [] i h = absurd (not-suc-le-zero h)
-getD-mem (n ∷ ns) zero h = List·Memᴰ·head refl
-getD-mem (n ∷ ns) (suc i) h = List·Memᴰ·tail (getD-mem ns i (le-of-suc-le-suc h))
 
 -- n stands among these at a place from `from` on, and before `to`
 abbrev pub Between : List ℕ → ℕ → ℕ → ℕ → Type 0

@@ -1,12 +1,12 @@
 -- The new list from its plan: its pages and entries, the numbers of the pages written, and what the tables then hold.
 use Prim.Native.Nat.{ℕ, zero, suc, _+_, _-_, _≤_}
 use native.Mathlib.Omega.{arith}
-use mathlib.Core.Path.{_≡_, refl, ap, sym, _∙_}
+use mathlib.Core.Path.{_≡_, ap, sym, _∙_}
 use mathlib.Core.Bool.{cond}
 use mathlib.Core.List.{List, _∷_, _++_, map, append-assoc}
 use lib.Dec.{leb}
 use lib.ListN.{length, getD, take, drop, length-append, drop-of-length-le}
-use lib.Seq.{sets, sets-eq, length-take-le, take-take, take-at, drop-at, drop-cons}
+use lib.Seq.{sets, length-take-le, take-take, drop-at, drop-cons}
 use borrow.Author.Tests.{leb-true, leb-false, le-leb, lt-leb}
 use Rattle.refusal.proofs.Cases.{cond-cases}
 use Rattle.page.specs.Pages.{Write}

@@ -17,7 +17,7 @@ use Rattle.refusal.proofs.Cases.{check-answer, cond-cases, and-true, or-true}
 use Rattle.page.specs.PageSize.{PageSize, capacity}
 use Rattle.page.specs.Pages.{pageCount, pageAt, writePage, writePages}
 use Rattle.page.specs.Growth.{maxBump}
-use Rattle.page.proofs.PlacesLaws.{at-places}
+use Rattle.page.proofs.PlacesLaws.{getD-mem, part-mem, at-places}
 use Rattle.page.proofs.PageSizeLaws.{page-least}
 use Rattle.page.proofs.PagesLaws.{page-within, pageCount-mono, pageCount-fits, length-written, page-same, page-other}
 use Rattle.preallocate.specs.Plan.{Plan, planOf}
@@ -33,7 +33,6 @@ use Rattle.allocator.specs.Finish.{headOf, newList, encodedPage, encoded
 use Rattle.allocator.specs.OpenSave.{Save, listOf, bumped, stateFits}
 use Rattle.allocator.specs.Steps.{previous}
 use Rattle.allocator.proofs.PushLaws.{one-of-product, shape-is, mends, plan-pushes}
-use Rattle.allocator.proofs.FreshLaws.{getD-mem}
 use Rattle.allocator.proofs.CarryLaws.{shape-bounds}
 use Rattle.allocator.proofs.NewShapeLaws.{fragmented-exactly, new-shape, length-pages-planned}
 use Rattle.allocator.proofs.CountLaws.{count, count-none, numbersFrom, count-append, count-split, count-pushList, conserved}
@@ -477,12 +476,6 @@ page-room s n size h = omega (arith, page-least size)
 page-few : (s n : ℕ) → PageSize s → n ≤ capacity s → n < 2 ^ 16
 unfolding capacity
 page-few s n size h = omega (arith, size .limit)
-
-take-mem : (x a : ℕ) (ns : List ℕ) → List·Memᴰ x (take a ns) → List·Memᴰ x ns
-take-mem x a ns m = count-mem x ns (omega (arith, mem-count x (take a ns) m, count-split x a ns))
-
-part-mem : (x a b : ℕ) (ns : List ℕ) → List·Memᴰ x (take a (drop b ns)) → List·Memᴰ x ns
-part-mem x a b ns m = count-mem x ns (omega (arith, mem-count x (drop b ns) (take-mem x a (drop b ns) m), count-split x b ns))
 
 on-mem : (c : ℕ) (l : FreeList) (j x : ℕ) → List·Memᴰ x (entriesOn c l j) → List·Memᴰ x (l .entries)
 unfolding entriesOn

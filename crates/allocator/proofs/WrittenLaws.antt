@@ -13,10 +13,11 @@ use lib.Seq.{length-take-le, getD-append-add}
 use borrow.Author.Tests.{leb-true, leb-false}
 use Rattle.refusal.proofs.Cases.{cond-cases}
 use Rattle.page.specs.PageSize.{capacity}
+use Rattle.page.proofs.PlacesLaws.{getD-mem}
 use Rattle.free_list.specs.Shape.{FreeList, isShape}
 use Rattle.preallocate.specs.Plan.{Plan, planOf}
 use Rattle.allocator.specs.Finish.{newList}
-use Rattle.allocator.proofs.FreshLaws.{getD-mem, new-pages, top-page}
+use Rattle.allocator.proofs.FreshLaws.{new-pages, top-page}
 use Rattle.allocator.proofs.NewListLaws.{length-new-pages}
 use Rattle.allocator.proofs.KeptPageLaws.{SameKept, number-top, plan-keeps, kept-top}
 use Rattle.allocator.proofs.ReadBackLaws.{Sound, mem-count}

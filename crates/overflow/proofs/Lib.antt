@@ -9,4 +9,5 @@ pub mod WalkLaws
 pub mod WalkingLaws
 pub mod CopyingLaws
 pub mod ReadLaws
+pub mod LocalLaws
 pub mod ReadBackLaws

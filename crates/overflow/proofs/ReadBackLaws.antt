@@ -13,7 +13,7 @@ use Rattle.refusal.specs.Outcome.{answer}
 use Rattle.refusal.proofs.Cases.{cond-cases}
 use Rattle.page.specs.PageSize.{PageSize}
 use Rattle.page.specs.Pages.{pageAt}
-use Rattle.page.proofs.PlacesLaws.{at-places}
+use Rattle.page.proofs.PlacesLaws.{at-places, part-mem}
 use Rattle.page.proofs.PagesLaws.{pageCount-fits}
 use Rattle.overflow.specs.Totals.{cellNumbers, totalPages}
 use Rattle.overflow.specs.Layout.{numbersBefore, bytesBefore, bytesOn}
@@ -24,7 +24,7 @@ use Rattle.overflow.specs.Steps.{PageFits}
 use Rattle.overflow.specs.Kept.{Kept, cellFor}
 use Rattle.overflow.proofs.TotalsLaws.{total-positive}
 use Rattle.overflow.proofs.LayoutLaws.{number-before, numbers-done, numbersBefore-suc, value-numbers-all, value-page-nonempty}
-use Rattle.overflow.proofs.ValuePagesLaws.{part-mem, numberCount-valuePage, byteCount-valuePage, valuePage-fits, valueNumbers-valuePage, valueBytes-valuePage, value-bytes-joined, value-bytes-whole}
+use Rattle.overflow.proofs.ValuePagesLaws.{numberCount-valuePage, byteCount-valuePage, valuePage-fits, valueNumbers-valuePage, valueBytes-valuePage, value-bytes-joined, value-bytes-whole}
 use Rattle.overflow.proofs.CellsLaws.{decode-encoded}
 use Rattle.overflow.proofs.WalkLaws.{parse-fits, walk-page}
 

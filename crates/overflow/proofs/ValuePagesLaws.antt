@@ -9,6 +9,7 @@ use lib.Seq.{sets, getD-append-add, drop-append-add, drop-append-seam, take-appe
 use Rattle.page.specs.PageSize.{PageSize}
 use Rattle.page.specs.Bytes.{bytesOf, numbersAt, bytesOfAll}
 use Rattle.page.proofs.PageSizeLaws.{page-least}
+use Rattle.page.proofs.PlacesLaws.{part-mem}
 use Rattle.page.proofs.SetsLaws.{sets-append}
 use Rattle.page.proofs.BytesLaws.{numberAt-append-left, numberAt-append-right, numbersAt-same, numberAt-bytesOf, numbersAt-bytesOfAll, length-bytesOf, length-bytesOfAll}
 use Rattle.overflow.specs.Totals.{cellNumbers, body, totalPages}
@@ -92,11 +93,6 @@ module _ (s : ℕ) (ns bs : List ℕ) where
         rw (byte-count-encoded, number-count-encoded, behind) (take-append-seam bs zeros)
 
 -- ---- the pages of a value
-
--- an element of a part is one of the whole
-pub part-mem : (x a b : ℕ) (ns : List ℕ) → List·Memᴰ x (take a (drop b ns)) → List·Memᴰ x ns
-part-mem x a b ns m =
-    subst (List·Memᴰ x) (take-append-drop b ns) (Memᴰ·append-right (take b ns) (subst (List·Memᴰ x) (take-append-drop a (drop b ns)) (Memᴰ·append-left (drop a (drop b ns)) m)))
 
 -- the numbers and the bytes of page i
 abbrev pub pageNumbers : ℕ → List ℕ → List ℕ → ℕ → List ℕ

@@ -1,13 +1,25 @@
 -- The numbers of a list, and its places.
-use Prim.Native.Nat.{ℕ, suc, _<_}
-use mathlib.Core.Path.{_≡_}
+use Prim.Native.Nat.{ℕ, zero, suc, _<_}
+use mathlib.Core.Path.{_≡_, refl, subst}
 use mathlib.Core.Logic.{_⊎_, inl, inr}
-use mathlib.Core.List.{List, [], _∷_, List·Memᴰ, List·Memᴰ·cases-cons, List·Memᴰ·not-nil}
+use mathlib.Core.List.{List, [], _∷_, List·Memᴰ, List·Memᴰ·head, List·Memᴰ·tail, List·Memᴰ·cases-cons, List·Memᴰ·not-nil, Memᴰ·append-left, Memᴰ·append-right}
+use native.Mathlib.Nat.{le-of-suc-le-suc, not-suc-le-zero}
 use native.Mathlib.Omega.{arith}
-use lib.ListN.{length, getD}
+use lib.ListN.{length, getD, take, drop, take-append-drop}
+
+-- what stands at a place is a number of the list
+pub getD-mem : (ns : List ℕ) (i : ℕ) → i < length ns → List·Memᴰ (getD ns i 0) ns
+getD-mem [] i h = absurd (not-suc-le-zero h)
+getD-mem (n ∷ ns) zero h = List·Memᴰ·head refl
+getD-mem (n ∷ ns) (suc i) h = List·Memᴰ·tail (getD-mem ns i (le-of-suc-le-suc h))
+
+-- a number of a part is one of the whole
+pub part-mem : (x a b : ℕ) (ns : List ℕ) → List·Memᴰ x (take a (drop b ns)) → List·Memᴰ x ns
+part-mem x a b ns m =
+    subst (List·Memᴰ x) (take-append-drop b ns) (Memᴰ·append-right (take b ns) (subst (List·Memᴰ x) (take-append-drop a (drop b ns)) (Memᴰ·append-left (drop a (drop b ns)) m)))
 
 -- a number of a list stands at some place
-mem-place : (x : ℕ) (ns : List ℕ) → List·Memᴰ x ns → (i : ℕ) × (i < length ns) × (x ≡ getD ns i 0)
+pub mem-place : (x : ℕ) (ns : List ℕ) → List·Memᴰ x ns → (i : ℕ) × (i < length ns) × (x ≡ getD ns i 0)
 mem-place x [] m = absurd (List·Memᴰ·not-nil m)
 mem-place x (n ∷ ns) m = go (List·Memᴰ·cases-cons m) (mem-place x ns)
   where
