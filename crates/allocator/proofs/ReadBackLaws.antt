@@ -293,7 +293,7 @@ mem-count x (n ∷ ns) m = go (List·Memᴰ·cases-cons m) (mem-count x ns)
     go (inl e) rest = rw (eq-eqb x n e) (omega arith)
     go (inr h) rest = omega (arith, rest h)
 
-count-mem : (x : ℕ) (ns : List ℕ) → 1 ≤ count x ns → List·Memᴰ x ns
+pub count-mem : (x : ℕ) (ns : List ℕ) → 1 ≤ count x ns → List·Memᴰ x ns
 unfolding count
 count-mem x [] h = absurd (omega arith)
 count-mem x (n ∷ ns) h = go (eqb x n) refl (count-mem x ns)
@@ -314,12 +314,12 @@ count-two (n ∷ ns) zero (suc j) h k e =
 count-two (n ∷ ns) (suc i) (suc j) h k e = omega (arith, count-two ns i j (omega arith) (omega arith) e)
 
 -- numbers one after another, each once
-count-before : (x b n : ℕ) → x < b → count x (numbersFrom b n) ≡ 0
+pub count-before : (x b n : ℕ) → x < b → count x (numbersFrom b n) ≡ 0
 unfolding count numbersFrom
 count-before x b zero h = refl
 count-before x b (suc n) h = rw (ne-eqb x b (omega arith)) (omega (arith, count-before x (suc b) n (omega arith)))
 
-count-once : (x b n : ℕ) → count x (numbersFrom b n) ≤ 1
+pub count-once : (x b n : ℕ) → count x (numbersFrom b n) ≤ 1
 unfolding count numbersFrom
 count-once x b zero = omega arith
 count-once x b (suc n) = go (eqb x b) refl (count-once x (suc b) n)
@@ -330,7 +330,7 @@ count-once x b (suc n) = go (eqb x b) refl (count-once x (suc b) n)
         rw e (omega (arith, count-before x (suc b) n (omega arith)))
     go false e rest = rw e (omega arith)
 
-count-within : (x b n : ℕ) → 1 ≤ count x (numbersFrom b n) → (b ≤ x) × (x < b + n)
+pub count-within : (x b n : ℕ) → 1 ≤ count x (numbersFrom b n) → (b ≤ x) × (x < b + n)
 unfolding count numbersFrom
 count-within x b zero h = absurd (omega arith)
 count-within x b (suc n) h = go (eqb x b) refl (count-within x (suc b) n)
@@ -412,7 +412,7 @@ module _ (c : ℕ) (l : FreeList) (k : ℕ) (freed : List ℕ) (bump : ℕ) (two
   count-new-entries x = count-append x (take (plan .left) (l .entries)) (plan .pushed)
 
   -- a page of the new list was a page or an entry of the old one, or is taken past the bump
-  count-new-pages : (x : ℕ) → count x (newList l plan .pages) ≤ count x (l .pages) + count x (l .entries) + count x (numbersFrom bump (plan .bump - bump))
+  pub count-new-pages : (x : ℕ) → count x (newList l plan .pages) ≤ count x (l .pages) + count x (l .entries) + count x (numbersFrom bump (plan .bump - bump))
   count-new-pages x = omega (arith, conserved c l k freed bump (omega arith) shape x, count-new-entries x, count-pushed x)
 
   -- An entry of the new list was an entry or a page of the old one, or was freed.
@@ -501,7 +501,7 @@ module _ (s : ℕ) (size : PageSize s) (m : FreeList) (shape : isShape (capacity
       some-of (no n) = absurd (omega (arith, shape-is cap (length (m .pages)) (length (m .entries)) shape .1 (omega arith)))
 
   -- a page has s bytes
-  encoded-long : (j : ℕ) → j < length (m .pages) → length (encodedPage s m j .bytes) ≡ s
+  pub encoded-long : (j : ℕ) → j < length (m .pages) → length (encodedPage s m j .bytes) ≡ s
   unfolding encodedPage
   encoded-long j h = length-encoded s _ (entriesOn cap m j) (fits (length (entriesOn cap m j)) (entries-on-few j h))
     where
@@ -522,11 +522,11 @@ module _ (s : ℕ) (size : PageSize s) (m : FreeList) (shape : isShape (capacity
     entries-small : (n : ℕ) → List·Memᴰ n (entriesOn cap m j) → n < 2 ^ 32
     entries-small n e = entries-fit n (on-mem cap m j n e)
 
-    decoded-before : prevOf (encodedPage s m j .bytes) ≡ previous (m .pages) j
+    pub decoded-before : prevOf (encodedPage s m j .bytes) ≡ previous (m .pages) j
     unfolding encodedPage
     decoded-before = prev-encoded s (previous (m .pages) j) (entriesOn cap m j) prev-fits count-small entries-small
 
-    decoded-entries : entriesOf (encodedPage s m j .bytes) ≡ entriesOn cap m j
+    pub decoded-entries : entriesOf (encodedPage s m j .bytes) ≡ entriesOn cap m j
     unfolding encodedPage
     decoded-entries = entries-encoded s (previous (m .pages) j) (entriesOn cap m j) prev-fits count-small entries-small
 

@@ -1,0 +1,123 @@
+-- The calls of a save: every number that is handed out is an entry of the first list or lies past its bump, and the save stays one of
+-- the first list until a finish succeeds.
+use Prim.Native.Nat.{ℕ, suc, _+_, _-_, _<_, _≤_}
+use mathlib.Core.Path.{_≡_, refl, sym, _∙_, ap, subst}
+use mathlib.Core.Logic.{_⊎_, inl, inr}
+use mathlib.Core.Bool.{_||_}
+use mathlib.Core.List.{List, [], _∷_, List·Memᴰ, List·Memᴰ·cases-cons, List·Memᴰ·not-nil}
+use native.Mathlib.Omega.{arith}
+use borrow.Author.Tests.{ltb-true, ltb-false}
+use lib.Dec.{ltb}
+use lib.ListN.{length, getD}
+use lib.Seq.{getD-take}
+use Rattle.refusal.specs.Outcome.{Outcome, answer, refused}
+use Rattle.refusal.proofs.Cases.{check-answer, cond-cases}
+use Rattle.page.specs.Growth.{maxBump}
+use Rattle.free_list.specs.Shape.{FreeList}
+use Rattle.allocator.specs.OpenSave.{Save, listOf, bumped, stateFits, nextNumber, nextSave, HandedOut, handOut}
+use Rattle.allocator.specs.Finish.{Finished, finish}
+use Rattle.allocator.proofs.FreshLaws.{Between, between-mem}
+use Rattle.rollback.specs.Calls.{Call, handOutCall, finishCall, Ending, stillOpen, finishedWith, Run, afterHandOut, afterFinish, run}
+use Rattle.rollback.specs.Rollback.{Opened}
+
+-- a number that a save may use: an entry of the first list, or one past its bump
+abbrev pub Fresh : FreeList → ℕ → ℕ → Type 0
+Fresh l bump n = List·Memᴰ n (l .entries) ⊎ (bump ≤ n)
+
+-- the numbers that a save with a count of h was handed out: the last entries, and past the list the numbers from the bump on
+abbrev pub Handed : FreeList → ℕ → ℕ → ℕ → Type 0
+Handed l bump h n = Between (l .entries) (length (l .entries) - h) (length (l .entries)) n ⊎ ((bump ≤ n) × (n < bump + (h - length (l .entries))))
+
+pub handed-fresh : (l : FreeList) (bump h n : ℕ) → Handed l bump h n → Fresh l bump n
+handed-fresh l bump h n (inl b) = inl (between-mem (l .entries) (length (l .entries) - h) (length (l .entries)) n (omega arith) b)
+handed-fresh l bump h n (inr b) = inr (b .0)
+
+handed-more : (l : FreeList) (bump h k n : ℕ) → h ≤ k → Handed l bump h n → Handed l bump k n
+handed-more l bump h k n le (inl (i, a, b, e)) = inl (i, omega arith, b, e)
+handed-more l bump h k n le (inr b) = inr (b .0, omega (arith, b .1))
+
+-- an open save of the first list: only its count and its recorded length change
+pub record SaveOf (l : FreeList) (bump : ℕ) (v : Save) : Type 0 where
+  pub list : listOf v ≡ l
+  pub P : v .P ≡ length (l .pages)
+  pub L : v .L ≡ length (l .entries)
+  pub start : v .bump ≡ bump
+
+pub opened-save : {l : FreeList} {bump : ℕ} {v : Save} → Opened l bump v → SaveOf l bump v
+opened-save o = record { list = o .list; P = o .P; L = o .L; start = o .start }
+
+module _ (s : ℕ) (l : FreeList) (bump : ℕ) where
+  -- the next number is handed out with one more in the count
+  next-handed : (v : Save) → SaveOf l bump v → Handed l bump (suc (v .handed)) (nextNumber v)
+  unfolding nextNumber
+  next-handed v o =
+      cond-cases (Handed l bump (suc (v .handed))) (ltb (v .handed) (v .L)) (getD (v .entryTable) (v .L - suc (v .handed)) 0) (bumped v)
+      (λ e. listed (ltb-true (v .handed) (v .L) e))
+      (λ e. let past = ltb-false (v .handed) (v .L) e in inr (omega (arith, o .start), omega (arith, o .start, o .L)))
+    where
+      listed : v .handed < v .L → Handed l bump (suc (v .handed)) (getD (v .entryTable) (v .L - suc (v .handed)) 0)
+      listed h =
+          let i = v .L - suc (v .handed) in
+          let same : getD (v .entryTable) i 0 ≡ getD (l .entries) i 0 = sym (getD-take (v .L) (v .entryTable) i 0 (omega arith)) ∙ ap (λ (m : FreeList). getD (m .entries) i 0) (o .list) in
+          inl (i, omega (arith, o .L), omega (arith, o .L), same)
+
+  unanswer : {A : Type 0} {x y : A} → answer x ≡ answer y → x ≡ y
+  unanswer e = cc
+
+  -- what a number handed out leaves
+  pub record Next (v : Save) (a : HandedOut) : Type 0 where
+    pub number : Handed l bump (suc (v .handed)) (a .number)
+    pub of : SaveOf l bump (a .save)
+    pub count : a .save .handed ≡ suc (v .handed)
+
+  hand-out : (v : Save) (a : HandedOut) → SaveOf l bump v → handOut s v ≡ answer a → Next v a
+  unfolding handOut
+  hand-out v a o e =
+      let c = check-answer (stateFits s v) 1 [] _ e in
+      let d = check-answer (ltb (v .handed) (v .L) || ltb (nextNumber v) maxBump) 7 [] (answer (record { number = nextNumber v; save = nextSave v })) (c .1) in
+      subst (Next v) (unanswer (d .1)) (record { number = next-handed v o; of = record { list = o .list; P = o .P; L = o .L; start = o .start }; count = refl })
+
+  -- a finish that has succeeded was one of this save
+  abbrev pub Finishes : Save → Ending → Type 0
+  Finishes v stillOpen = Unit {0}
+  Finishes v (finishedWith freed f) = (bytesLent : ℕ) × (numbersLent : ℕ) × (finish s v freed bytesLent numbersLent ≡ answer f)
+
+  -- what the calls leave: the last state of the save, which the numbers handed out and the finish are of
+  pub record Ran (v : Save) (r : Run) : Type 0 where
+    pub last : Save
+    pub of : SaveOf l bump last
+    pub later : v .handed ≤ last .handed
+    pub numbers : (n : ℕ) → List·Memᴰ n (r .numbers) → Handed l bump (last .handed) n
+    pub finishes : Finishes last (r .ending)
+
+  after-hand-out : (v : Save) (next : Save → Run) (stay : Run) (o : Outcome HandedOut) → SaveOf l bump v → handOut s v ≡ o
+      → ((w : Save) → SaveOf l bump w → Ran w (next w)) → Ran v stay → Ran v (afterHandOut next stay o)
+  after-hand-out v next stay (answer a) o e more r =
+      let n = hand-out v a o e in
+      let q = more (a .save) (n .of) in
+      record {
+        last = q .last;
+        of = q .of;
+        later = omega (arith, n .count, q .later);
+        numbers = λ m h. go m n q (List·Memᴰ·cases-cons h);
+        finishes = q .finishes;
+      }
+    where
+      go : (m : ℕ) → Next v a → (q : Ran (a .save) (next (a .save))) → (m ≡ a .number) ⊎ List·Memᴰ m (next (a .save) .numbers) → Handed l bump (q .last .handed) m
+      go m n q (inl e) = rw e (handed-more l bump (suc (v .handed)) (q .last .handed) (a .number) (omega (arith, n .count, q .later)) (n .number))
+      go m n q (inr h) = q .numbers m h
+  after-hand-out v next stay (refused n vs) o e more r = r
+
+  after-finish : (v : Save) (freed : List ℕ) (bytesLent numbersLent : ℕ) (stay : Run) (o : Outcome Finished) → SaveOf l bump v
+      → finish s v freed bytesLent numbersLent ≡ o → Ran v stay → Ran v (afterFinish freed stay o)
+  after-finish v freed bytesLent numbersLent stay (answer f) o e r =
+      record { last = v; of = o; later = omega arith; numbers = λ n m. absurd (List·Memᴰ·not-nil m); finishes = (bytesLent, numbersLent, e) }
+  after-finish v freed bytesLent numbersLent stay (refused n vs) o e r = r
+
+  -- every list of calls
+  pub run-ran : (calls : List Call) (v : Save) → SaveOf l bump v → Ran v (run s v calls)
+  unfolding run
+  run-ran [] v o = record { last = v; of = o; later = omega arith; numbers = λ n m. absurd (List·Memᴰ·not-nil m); finishes = tt }
+  run-ran (handOutCall ∷ calls) v o = after-hand-out v (λ (next : Save). run s next calls) (run s v calls) (handOut s v) o refl (λ w p. run-ran calls w p) (run-ran calls v o)
+  run-ran (finishCall freed bytesLent numbersLent ∷ calls) v o =
+      after-finish v freed bytesLent numbersLent (run s v calls) (finish s v freed bytesLent numbersLent) o refl (run-ran calls v o)

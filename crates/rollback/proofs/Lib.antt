@@ -1,0 +1,5 @@
+-- The proof of demand 3.
+pub mod ReadersLaws
+pub mod CallsLaws
+pub mod WritesLaws
+pub mod RollbackLaws
