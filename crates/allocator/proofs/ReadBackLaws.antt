@@ -592,10 +592,12 @@ module _ (s : ℕ) (size : PageSize s) (l : FreeList) (k : ℕ) (freed : List �
   new = newList l made
 
   -- A store that holds the old list, and has then the new list's pages from the top kept one up, each as encoded and at its number, while
-  -- the pages below that are as they were, holds the new list. Its number of pages has not fallen, and the freed numbers are among them.
+  -- the pages below that read as they did, holds the new list. Its number of pages has not fallen, and the freed numbers are among them.
   module _ (after : List ℕ) (grew : pageCount s store ≤ pageCount s after)
       (freed-inside : (n : ℕ) → List·Memᴰ n freed → Inside (pageCount s after) n)
-      (kept-same : (j : ℕ) → j + 1 < made .kept → pageAt s after (getD (l .pages) j 0) ≡ pageAt s store (getD (l .pages) j 0))
+      (kept-same : (j : ℕ) → j + 1 < made .kept
+      → (prevOf (pageAt s after (getD (l .pages) j 0)) ≡ prevOf (pageAt s store (getD (l .pages) j 0)))
+      × (entriesOf (pageAt s after (getD (l .pages) j 0)) ≡ entriesOf (pageAt s store (getD (l .pages) j 0))))
       (found : (j : ℕ) → made .kept ≤ j + 1 → j < length (new .pages)
       → (pageAt s after (getD (new .pages) j 0) ≡ encodedPage s new j .bytes) × (getD (new .pages) j 0 < pageCount s after)) where
     shape-after : isShape (capacity s) (length (new .pages)) (length (new .entries)) ≡ true
@@ -650,7 +652,7 @@ module _ (s : ℕ) (size : PageSize s) (l : FreeList) (k : ℕ) (freed : List �
           go : Dec (j + 1 < made .kept) → prevOf (pageAt s after (getD (new .pages) j 0)) ≡ previous (new .pages) j
           go (yes y) =
               ap (λ (p : ℕ). prevOf (pageAt s after p)) (same-as j y .number)
-              ∙ ap prevOf (kept-same j y)
+              ∙ kept-same j y .0
               ∙ held .before j (omega (arith, kept-few))
               ∙ sym (same-as j y .before)
           go (no n) = ap prevOf (found j (omega arith) h .0) ∙ decoded-before s size new shape-after j h pages-fit entries-fit
@@ -661,7 +663,7 @@ module _ (s : ℕ) (size : PageSize s) (l : FreeList) (k : ℕ) (freed : List �
           go : Dec (j + 1 < made .kept) → entriesOf (pageAt s after (getD (new .pages) j 0)) ≡ entriesOn (capacity s) new j
           go (yes y) =
               ap (λ (p : ℕ). entriesOf (pageAt s after p)) (same-as j y .number)
-              ∙ ap entriesOf (kept-same j y)
+              ∙ kept-same j y .1
               ∙ held .entries j (omega (arith, kept-few))
               ∙ sym (same-as j y .entries)
           go (no n) = ap entriesOf (found j (omega arith) h .0) ∙ decoded-entries s size new shape-after j h pages-fit entries-fit
@@ -719,7 +721,7 @@ module _ (s : ℕ) (size : PageSize s) (l : FreeList) (k : ℕ) (freed : List �
         (f .0, page-inside s _ (getD (new .pages) j 0) (omega (arith, page-least size)) (f .1) (omega arith))
 
     pub new-read : readList s after (headOf new) ≡ answer new
-    new-read = read-held s after new (size .two-entries) (new-held after grew freed-inside kept-same found)
+    new-read = read-held s after new (size .two-entries) (new-held after grew freed-inside (λ j h. (ap prevOf (kept-same j h), ap entriesOf (kept-same j h))) found)
 
 -- ---- a list that was read is held
 

@@ -7,7 +7,7 @@ use lib.ListN.{length, getD, take}
 use lib.Seq.{sets}
 use Rattle.refusal.specs.Outcome.{Outcome, answer, refused, check}
 use Rattle.page.specs.PageSize.{capacity}
-use Rattle.page.specs.Pages.{Write}
+use Rattle.page.specs.Pages.{pageAt, Write}
 use Rattle.page.specs.Growth.{maxBump, grown}
 use Rattle.free_list.specs.ListPages.{encodeListPage}
 use Rattle.free_list.specs.Shape.{FreeList, entriesOn}
@@ -111,6 +111,11 @@ pub record FinishEffect : Type 0 where
 unfoldable pub bytesOfPages : List Write → List ℕ
 bytesOfPages [] = []
 bytesOfPages (w ∷ ws) = w .bytes ++ bytesOfPages ws
+
+-- n pages from page j on, as they lie in a page buffer and a number list
+unfoldable pub lentPages : ℕ → List ℕ → List ℕ → ℕ → ℕ → List Write
+lentPages s buffer numbers j zero = []
+lentPages s buffer numbers j (suc n) = record { number = getD numbers j 0; bytes = pageAt s buffer j } ∷ lentPages s buffer numbers (suc j) n
 
 -- the tables hold the new list, the buffer and the number list the pages as encoded; a refusal leaves all as it was
 abbrev pub finishStored : Save → List ℕ → List ℕ → Outcome Finished → FinishEffect

@@ -4,7 +4,7 @@ use Prim.Native.Nat.{ℕ, suc, _+_, _-_, _<_, _≤_}
 use mathlib.Core.Path.{_≡_, refl, sym, _∙_, ap, subst}
 use mathlib.Core.Logic.{_⊎_, inl, inr}
 use mathlib.Core.Bool.{_||_}
-use mathlib.Core.List.{List, [], _∷_, List·Memᴰ, List·Memᴰ·cases-cons, List·Memᴰ·not-nil}
+use mathlib.Core.List.{List, [], _∷_, List·Memᴰ, List·Memᴰ·cases-cons, List·Memᴰ·not-nil, List·Memᴰ·eq-of-singleton}
 use native.Mathlib.Omega.{arith}
 use borrow.Author.Tests.{ltb-true, ltb-false}
 use lib.Dec.{ltb}
@@ -17,8 +17,8 @@ use Rattle.free_list.specs.Shape.{FreeList}
 use Rattle.allocator.specs.OpenSave.{Save, listOf, bumped, stateFits, nextNumber, nextSave, HandedOut, handOut}
 use Rattle.allocator.specs.Finish.{Finished, finish}
 use Rattle.allocator.proofs.FreshLaws.{Between, between-mem}
-use Rattle.rollback.specs.Calls.{Call, handOutCall, finishCall, Ending, stillOpen, finishedWith, Run, afterHandOut, afterFinish, run}
-use Rattle.rollback.specs.Rollback.{Opened}
+use Rattle.rollback.specs.Calls.{Call, handOutCall, finishCall, Run, afterHandOut, afterFinish, run}
+use Rattle.rollback.specs.Rollback.{State, Opened}
 
 -- a number that a save may use: an entry of the first list, or one past its bump
 abbrev pub Fresh : FreeList → ℕ → ℕ → Type 0
@@ -43,7 +43,7 @@ pub record SaveOf (l : FreeList) (bump : ℕ) (v : Save) : Type 0 where
   pub L : v .L ≡ length (l .entries)
   pub start : v .bump ≡ bump
 
-pub opened-save : {l : FreeList} {bump : ℕ} {v : Save} → Opened l bump v → SaveOf l bump v
+pub opened-save : {a : State} {v : Save} → Opened a v → SaveOf (a .list) (a .bump) v
 opened-save o = record { list = o .list; P = o .P; L = o .L; start = o .start }
 
 module _ (s : ℕ) (l : FreeList) (bump : ℕ) where
@@ -78,9 +78,8 @@ module _ (s : ℕ) (l : FreeList) (bump : ℕ) where
       subst (Next v) (unanswer (d .1)) (record { number = next-handed v o; of = record { list = o .list; P = o .P; L = o .L; start = o .start }; count = refl })
 
   -- a finish that has succeeded was one of this save
-  abbrev pub Finishes : Save → Ending → Type 0
-  Finishes v stillOpen = Unit {0}
-  Finishes v (finishedWith freed f) = (bytesLent : ℕ) × (numbersLent : ℕ) × (finish s v freed bytesLent numbersLent ≡ answer f)
+  abbrev pub Finishes : Save → Run → Type 0
+  Finishes v r = (f : Finished) → List·Memᴰ f (r .finished) → (bytesLent : ℕ) × (numbersLent : ℕ) × (finish s v (r .freed) bytesLent numbersLent ≡ answer f)
 
   -- what the calls leave: the last state of the save, which the numbers handed out and the finish are of
   pub record Ran (v : Save) (r : Run) : Type 0 where
@@ -88,7 +87,7 @@ module _ (s : ℕ) (l : FreeList) (bump : ℕ) where
     pub of : SaveOf l bump last
     pub later : v .handed ≤ last .handed
     pub numbers : (n : ℕ) → List·Memᴰ n (r .numbers) → Handed l bump (last .handed) n
-    pub finishes : Finishes last (r .ending)
+    pub finishes : Finishes last r
 
   after-hand-out : (v : Save) (next : Save → Run) (stay : Run) (o : Outcome HandedOut) → SaveOf l bump v → handOut s v ≡ o
       → ((w : Save) → SaveOf l bump w → Ran w (next w)) → Ran v stay → Ran v (afterHandOut next stay o)
@@ -111,13 +110,16 @@ module _ (s : ℕ) (l : FreeList) (bump : ℕ) where
   after-finish : (v : Save) (freed : List ℕ) (bytesLent numbersLent : ℕ) (stay : Run) (o : Outcome Finished) → SaveOf l bump v
       → finish s v freed bytesLent numbersLent ≡ o → Ran v stay → Ran v (afterFinish freed stay o)
   after-finish v freed bytesLent numbersLent stay (answer f) o e r =
-      record { last = v; of = o; later = omega arith; numbers = λ n m. absurd (List·Memᴰ·not-nil m); finishes = (bytesLent, numbersLent, e) }
+      record { last = v; of = o; later = omega arith; numbers = λ n m. absurd (List·Memᴰ·not-nil m); finishes = λ g m. (bytesLent, numbersLent, e ∙ ap answer (sym (only m))) }
+    where
+      only : {g : Finished} → List·Memᴰ g (f ∷ []) → g ≡ f
+      only m = List·Memᴰ·eq-of-singleton m
   after-finish v freed bytesLent numbersLent stay (refused n vs) o e r = r
 
   -- every list of calls
   pub run-ran : (calls : List Call) (v : Save) → SaveOf l bump v → Ran v (run s v calls)
   unfolding run
-  run-ran [] v o = record { last = v; of = o; later = omega arith; numbers = λ n m. absurd (List·Memᴰ·not-nil m); finishes = tt }
+  run-ran [] v o = record { last = v; of = o; later = omega arith; numbers = λ n m. absurd (List·Memᴰ·not-nil m); finishes = λ f m. absurd (List·Memᴰ·not-nil m) }
   run-ran (handOutCall ∷ calls) v o = after-hand-out v (λ (next : Save). run s next calls) (run s v calls) (handOut s v) o refl (λ w p. run-ran calls w p) (run-ran calls v o)
   run-ran (finishCall freed bytesLent numbersLent ∷ calls) v o =
       after-finish v freed bytesLent numbersLent (run s v calls) (finish s v freed bytesLent numbersLent) o refl (run-ran calls v o)

@@ -3,3 +3,4 @@ pub mod ReadersLaws
 pub mod CallsLaws
 pub mod WritesLaws
 pub mod RollbackLaws
+pub mod SeasonsLaws

@@ -20,10 +20,10 @@ use Rattle.overflow.specs.Reading.{Found, walkCell}
 use Rattle.overflow.proofs.LocalLaws.{walk-local}
 use Rattle.allocator.specs.OpenSave.{Save}
 use Rattle.allocator.proofs.ReadBackLaws.{Held, read-held, held-read, head-read}
-use Rattle.rollback.specs.Calls.{Call, Ending, stillOpen, finishedWith, run, listPages}
-use Rattle.rollback.specs.Rollback.{GetsList, Value, GetsValue, Reads, Different, FirstSave, Opened, ToWrite, valuePage, listPage, cutStore, Rollback}
+use Rattle.rollback.specs.Calls.{Call, run}
+use Rattle.rollback.specs.Rollback.{GetsList, Value, GetsValue, Different, State, Good, Opened, ToWrite, valuePage, listPage, Cut, Rollback}
 use Rattle.rollback.proofs.ReadersLaws.{list-read, gets-list, value-walked, gets-value}
-use Rattle.rollback.proofs.CallsLaws.{Fresh, handed-fresh, opened-save, Finishes, Ran, run-ran}
+use Rattle.rollback.proofs.CallsLaws.{Fresh, handed-fresh, opened-save, Ran, run-ran}
 use Rattle.rollback.proofs.WritesLaws.{SamePage, MayWrite, succeeds, finish-writes}
 
 -- what stands in the front of a list of different numbers does not stand in the rest
@@ -35,12 +35,21 @@ different-apart (x ∷ xs) ys d n m k = go (λ t. different-apart xs ys (d .1) n
     go f (inl e) = d .0 (Memᴰ·append-right xs (Memᴰ·cast (sym e) k))
     go f (inr t) = f t
 
-module _ (s : ℕ) (size : PageSize s) (store : List ℕ) (head : ℕ) (l : FreeList) (values : List Value) (bump : ℕ) (first : FirstSave s store head l values bump) where
-  read : readList s store head ≡ answer l
-  read = list-read s store head l (first .reads .list)
+module _ (s : ℕ) (size : PageSize s) (a : State) (first : Good s a) where
+  abbrev store : List ℕ
+  store = a .store
 
-  held : Held s store l
-  held = held-read s store head l read
+  abbrev l : FreeList
+  l = a .list
+
+  abbrev bump : ℕ
+  bump = a .bump
+
+  read : readList s store (a .head) ≡ answer l
+  read = list-read s store (a .head) l (first .reads)
+
+  pub held : Held s store l
+  held = held-read s store (a .head) l read
 
   pos : 0 < s
   pos = omega (arith, page-least size)
@@ -64,7 +73,7 @@ module _ (s : ℕ) (size : PageSize s) (store : List ℕ) (head : ℕ) (l : Free
       record {
         longer = omega (arith, length-append store extra);
         lists = λ p m h. subst (SamePage (pageAt s store p)) (sym (pageAt-grown s store extra p (page-within s store p pos h))) (same-same (pageAt s store p));
-        others = λ p a b h. pageAt-grown s store extra p (page-within s store p pos h);
+        others = λ p f g h. pageAt-grown s store extra p (page-within s store p pos h);
       }
 
   left-write : (more : List ℕ) (w : Write) → Left more → MayWrite s store l bump w → Left (writePage s more w)
@@ -72,7 +81,7 @@ module _ (s : ℕ) (size : PageSize s) (store : List ℕ) (head : ℕ) (l : Free
       record {
         longer = omega (arith, k .longer, length-written s more w (may .whole));
         lists = λ p m h. on-list p m h (ℕ-discrete p (w .number)) (may .apart);
-        others = λ p a b h. on-other p a b h (ℕ-discrete p (w .number)) (may .apart);
+        others = λ p f g h. on-other p f g h (ℕ-discrete p (w .number)) (may .apart);
       }
     where
       inside : (p : ℕ) → p < pageCount s store → s * p + s ≤ length more
@@ -90,33 +99,29 @@ module _ (s : ℕ) (size : PageSize s) (store : List ℕ) (head : ℕ) (l : Free
       on-other : (p : ℕ) → (Fresh l bump p → ⊥) → (List·Memᴰ p (l .pages) → ⊥) → p < pageCount s store → Dec (p ≡ w .number)
           → Fresh l bump (w .number) ⊎ (List·Memᴰ (w .number) (l .pages) × SamePage (pageAt s store (w .number)) (w .bytes))
           → pageAt s (writePage s more w) p ≡ pageAt s store p
-      on-other p a b h (no ne) x = page-other s more w (may .whole) p ne (inside p h) ∙ k .others p a b h
-      on-other p a b h (yes e) (inl f) = absurd (a (subst (Fresh l bump) (sym e) f))
-      on-other p a b h (yes e) (inr x) = absurd (b (Memᴰ·cast e (x .0)))
+      on-other p f g h (no ne) x = page-other s more w (may .whole) p ne (inside p h) ∙ k .others p f g h
+      on-other p f g h (yes e) (inl x) = absurd (f (subst (Fresh l bump) (sym e) x))
+      on-other p f g h (yes e) (inr x) = absurd (g (Memᴰ·cast e (x .0)))
 
   left-writes : (more : List ℕ) (ws : List Write) → Left more → ((w : Write) → List·Memᴰ w ws → MayWrite s store l bump w) → Left (writePages s more ws)
   unfolding writePages
   left-writes more [] k may = k
   left-writes more (w ∷ ws) k may = left-writes (writePage s more w) ws (left-write more w k (may w (List·Memᴰ·head refl))) (λ x m. may x (List·Memᴰ·tail m))
 
-  module _ (v : Save) (calls : List Call) (opened : Opened l bump v) where
-    ran : Ran s l bump v (run s v calls)
+  -- what may be written leaves the first save alone
+  module _ (v : Save) (calls : List Call) (opened : Opened a v) where
+    pub ran : Ran s l bump v (run s v calls)
     ran = run-ran s l bump calls v (opened-save opened)
 
-    -- what may be written leaves the first save alone
     may-write : (w : Write) → ToWrite s (run s v calls) w → MayWrite s store l bump w
     may-write w (valuePage m e) = record { whole = e; apart = inl (handed-fresh l bump _ (w .number) (ran .numbers (w .number) m)) }
-    may-write w (listPage m) = go (run s v calls .ending) (ran .finishes) m
-      where
-        go : (e : Ending) → Finishes s l bump (ran .last) e → List·Memᴰ w (listPages e) → MayWrite s store l bump w
-        go stillOpen f h = elim h [ ]
-        go (finishedWith freed f) (b, n, e) h =
-            finish-writes s size store l bump held (first .different) (first .below) (ran .last) (ran .of) freed f (succeeds s (ran .last) freed b n f e) w h
+    may-write w (listPage f h m) =
+        let (b, n, e) = ran .finishes f h in
+        finish-writes s size store l bump held (first .different) (first .below) (ran .last) (ran .of) (run s v calls .freed) f (succeeds s (ran .last) (run s v calls .freed) b n f e) w m
 
-    module _ (extra : List ℕ) (ws : List Write) (written : (w : Write) → List·Memᴰ w ws → ToWrite s (run s v calls) w) where
-      pub left : Left (cutStore s store extra ws)
-      unfolding cutStore
-      left = left-writes (store ++ extra) ws (left-start extra) (λ w m. may-write w (written w m))
+  pub left : (after : List ℕ) → Cut s a after → Left after
+  left after c =
+      subst Left (sym (c .leaves)) (left-writes (store ++ c .extra) (c .writes) (left-start (c .extra)) (λ w m. may-write (c .save) (c .calls) (c .opened) w (c .allowed w m)))
 
   module _ (more : List ℕ) (k : Left more) where
     more-pages : pageCount s store ≤ pageCount s more
@@ -134,23 +139,23 @@ module _ (s : ℕ) (size : PageSize s) (store : List ℕ) (head : ℕ) (l : Free
           entries-inside = λ n m. (held .entries-inside n m .0, omega (arith, held .entries-inside n m .1, more-pages));
         }
 
-    list-survives : GetsList s more head l
+    list-survives : GetsList s more (a .head) l
     list-survives =
-        gets-list s more head l
-        (ap (λ (p : ℕ). readList s more p) (head-read s store head l read) ∙ read-held s more l (size .two-entries) held-more)
+        gets-list s more (a .head) l
+        (ap (λ (p : ℕ). readList s more p) (head-read s store (a .head) l read) ∙ read-held s more l (size .two-entries) held-more)
 
     -- a page of a first value is as it was
-    value-page : (x : Value) → List·Memᴰ x values → (n : ℕ) → List·Memᴰ n (x .numbers) → n < pageCount s store → pageAt s more n ≡ pageAt s store n
+    value-page : (x : Value) → List·Memᴰ x (a .values) → (n : ℕ) → List·Memᴰ n (x .numbers) → n < pageCount s store → pageAt s more n ≡ pageAt s store n
     value-page x c n m h = k .others n not-fresh (λ t. first .values-apart x c n m (Memᴰ·append-left (l .entries) t)) h
       where
         not-fresh : Fresh l bump n → ⊥
         not-fresh (inl t) = first .values-apart x c n m (Memᴰ·append-right (l .pages) t)
         not-fresh (inr t) = omega (arith, first .values-below x c n m)
 
-    value-survives : (x : Value) → List·Memᴰ x values → GetsValue s more x
+    value-survives : (x : Value) → List·Memᴰ x (a .values) → GetsValue s more x
     unfolding walkCell
     value-survives x c =
-        let gets = first .reads .each x c in
+        let gets = first .each x c in
         let walked = value-walked s store x gets in
         let found : Found = record { numbers = x .numbers; bytes = x .bytes } in
         let cell = cellOf (x .cell) in
@@ -158,13 +163,12 @@ module _ (s : ℕ) (size : PageSize s) (store : List ℕ) (head : ℕ) (l : Free
         (walk-local s store more more-pages (totalPages s (cell .size)) 0 (record { numbers = cell .numbers; bytes = [] }) found walked (value-page x c) ∙ sym walked)
 
     -- the first head and the first cells read as they did
-    pub left-reads : Reads s more head l values
-    left-reads = record { list = list-survives; each = value-survives }
+    pub left-reads : GetsList s more (a .head) l × ((x : Value) → List·Memᴰ x (a .values) → GetsValue s more x)
+    left-reads = (list-survives, value-survives)
 
 -- demand 3, at every page size
 pub rollback : (s : ℕ) → PageSize s → Rollback s
-rollback s size store head l values bump v calls extra ws first opened written =
-    left-reads s size store head l values bump first (cutStore s store extra ws) (left s size store head l values bump first v calls opened extra ws written)
+rollback s size a after first c = left-reads s size a first after (left s size a first after c)
 
 -- demand 3, at document 01's page size
 pub rollback-4096 : Rollback pageSize
