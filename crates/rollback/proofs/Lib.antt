@@ -4,3 +4,4 @@ pub mod CallsLaws
 pub mod WritesLaws
 pub mod RollbackLaws
 pub mod SeasonsLaws
+pub mod BridgeLaws

@@ -117,7 +117,7 @@ module _ (s : ℕ) (size : PageSize s) (a : State) (first : Good s a) where
     may-write w (valuePage m e) = record { whole = e; apart = inl (handed-fresh l bump _ (w .number) (ran .numbers (w .number) m)) }
     may-write w (listPage f h m) =
         let (b, n, e) = ran .finishes f h in
-        finish-writes s size store l bump held (first .different) (first .below) (ran .last) (ran .of) (run s v calls .freed) f (succeeds s (ran .last) (run s v calls .freed) b n f e) w m
+        finish-writes s size store l bump held (first .different) (first .below) (ran .last) (ran .of) (run s v calls .freed) f (succeeds s (ran .last) (run s v calls .freed) b n f e .0) w m
 
   pub left : (after : List ℕ) → Cut s a after → Left after
   left after c =

@@ -117,7 +117,7 @@ module _ (s : ℕ) (size : PageSize s) (a b : State) (first : Good s a) (c : Cut
   done : Succeeds s v freed f
   done =
       let (bytesLent, numbersLent, e) = the-ran .finishes f (subst (λ (fs : List Finished). List·Memᴰ f fs) (sym (saved .finished)) (List·Memᴰ·head refl)) in
-      succeeds s v freed bytesLent numbersLent f e
+      succeeds s v freed bytesLent numbersLent f e .0
 
   abbrev h : ℕ
   h = v .handed

@@ -10,7 +10,7 @@ use lib.Dec.{leb, eqb}
 use lib.ListN.{length, getD}
 use borrow.Author.Tests.{leb-true, eqb-true}
 use Rattle.refusal.specs.Outcome.{answer}
-use Rattle.refusal.proofs.Cases.{check-answer}
+use Rattle.refusal.proofs.Cases.{check-answer, and-true}
 use Rattle.page.specs.PageSize.{PageSize, capacity}
 use Rattle.page.specs.Pages.{pageCount, pageAt, Write}
 use Rattle.page.specs.Growth.{maxBump}
@@ -62,10 +62,18 @@ pub record Succeeds (s : ℕ) (v : Save) (freed : List ℕ) (f : Finished) : Typ
   pub limit : f .bump ≤ maxBump
   pub good : firstBad (bumped v) freed ≡ length freed
 
+-- and the room that it was lent
+pub record Room (s : ℕ) (v : Save) (f : Finished) (bytesLent numbersLent : ℕ) : Type 0 where
+  pub bytes : s * length (f .written) ≤ bytesLent
+  pub numbers : length (f .written) ≤ numbersLent
+  pub pages : length (f .list .pages) ≤ length (v .pageTable)
+  pub entries : length (f .list .entries) ≤ length (v .entryTable)
+
 unanswer : {A : Type 0} {x y : A} → answer x ≡ answer y → x ≡ y
 unanswer e = cc
 
-pub succeeds : (s : ℕ) (v : Save) (freed : List ℕ) (bytesLent numbersLent : ℕ) (f : Finished) → finish s v freed bytesLent numbersLent ≡ answer f → Succeeds s v freed f
+pub succeeds : (s : ℕ) (v : Save) (freed : List ℕ) (bytesLent numbersLent : ℕ) (f : Finished) → finish s v freed bytesLent numbersLent ≡ answer f
+    → Succeeds s v freed f × Room s v f bytesLent numbersLent
 unfolding finish
 succeeds s v freed bytesLent numbersLent f e =
     let g = finished s v freed in
@@ -75,13 +83,23 @@ succeeds s v freed bytesLent numbersLent f e =
     let c = check-answer (eqb bad (length freed)) 8 (bad ∷ []) _ (b .1) in
     let d = check-answer (leb (length (g .list .pages)) (length (v .pageTable)) && leb (length (g .list .entries)) (length (v .entryTable))) 6 [] _ (c .1) in
     let h = check-answer (leb (s * length (g .written)) bytesLent && leb (length (g .written)) numbersLent) 9 [] (answer g) (d .1) in
+    let t = and-true (leb (length (g .list .pages)) (length (v .pageTable))) _ (d .0) in
+    let u = and-true (leb (s * length (g .written)) bytesLent) _ (h .0) in
     let same : g ≡ f = unanswer (h .1) in
-    record {
-      stands = standing s v (a .0);
-      is = sym same;
-      limit = subst (λ (x : Finished). x .bump ≤ maxBump) same (leb-true (g .bump) maxBump (b .0));
-      good = eqb-true bad (length freed) (c .0);
-    }
+    subst (λ (x : Finished). Succeeds s v freed x × Room s v x bytesLent numbersLent) same (
+      record {
+        stands = standing s v (a .0);
+        is = refl;
+        limit = leb-true (g .bump) maxBump (b .0);
+        good = eqb-true bad (length freed) (c .0);
+      },
+      record {
+        bytes = leb-true _ bytesLent (u .0);
+        numbers = leb-true _ numbersLent (u .1);
+        pages = leb-true _ (length (v .pageTable)) (t .0);
+        entries = leb-true _ (length (v .entryTable)) (t .1);
+      },
+    )
 
 -- ---- the pages that it writes
 
@@ -96,7 +114,7 @@ pub record MayWrite (s : ℕ) (store : List ℕ) (l : FreeList) (bump : ℕ) (w 
   pub apart : Fresh l bump (w .number) ⊎ (List·Memᴰ (w .number) (l .pages) × SamePage (pageAt s store (w .number)) (w .bytes))
 
 -- a page among the encoded ones is one of the list's
-encoded-mem : (s : ℕ) (m : FreeList) (j n : ℕ) (w : Write) → List·Memᴰ w (encodedPages s m j n) → (i : ℕ) × (j ≤ i) × (i < j + n) × (w ≡ encodedPage s m i)
+pub encoded-mem : (s : ℕ) (m : FreeList) (j n : ℕ) (w : Write) → List·Memᴰ w (encodedPages s m j n) → (i : ℕ) × (j ≤ i) × (i < j + n) × (w ≡ encodedPage s m i)
 unfolding encodedPages
 encoded-mem s m j zero w h = absurd (List·Memᴰ·not-nil h)
 encoded-mem s m j (suc n) w h = go (List·Memᴰ·cases-cons h) (encoded-mem s m (suc j) n w)
