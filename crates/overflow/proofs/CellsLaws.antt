@@ -113,7 +113,7 @@ module _ (c : Cell) (few : c .size ≤ maxSize) (hash : length (c .hash) ≡ has
       ap (take hashSize) (drop-at (bytesOf 8 (c .size)) (c .hash ++ bytesOfAll 4 (c .numbers)) 8 (length-bytesOf 8 (c .size)))
       ∙ take-at (c .hash) (bytesOfAll 4 (c .numbers)) hashSize hash
 
-  count-encoded : cellCount (cellBytes c) ≡ length (c .numbers)
+  pub count-encoded : cellCount (cellBytes c) ≡ length (c .numbers)
   unfolding cellCount
   count-encoded = rw (length-cellBytes c hash) (omega arith)
 

@@ -16,12 +16,16 @@ use Rattle.page.proofs.SetsLaws.{take-sets}
 use Rattle.free_list.specs.Shape.{FreeList, isShape}
 use Rattle.free_list.specs.Reading.{readInto, ReadEffect}
 use Rattle.preallocate.specs.Plan.{planOf}
+use Rattle.overflow.specs.Cells.{hashSize, cellBytes, cellCount, decodeCellInto}
+use Rattle.overflow.specs.Kept.{Kept, cellFor}
+use Rattle.overflow.proofs.CellsLaws.{count-encoded}
+use Rattle.overflow.proofs.ReadBackLaws.{decode-back, read-back}
 use Rattle.allocator.specs.OpenSave.{Save, listOf, bumped}
 use Rattle.allocator.specs.Finish.{newList, encodedPage, encodedPages, Finished, carriedOut, finishList, FinishAnswer, finishAnswer, finished, finish, FinishEffect, bytesOfPages, lentPages, finishStored, finishInto}
 use Rattle.allocator.proofs.NewShapeLaws.{new-shape, length-pages-planned}
 use Rattle.allocator.proofs.ReadBackLaws.{encoded-long}
 use Rattle.rollback.specs.Calls.{Run}
-use Rattle.rollback.specs.Rollback.{GetsList, State, Opened, ToWrite, listPage}
+use Rattle.rollback.specs.Rollback.{GetsList, GetsValue, State, Opened, ToWrite, listPage}
 use Rattle.rollback.proofs.WritesLaws.{encoded-mem, Succeeds, succeeds}
 
 -- ---- the writes
@@ -191,3 +195,17 @@ read-opens s b pages entries recorded gets h k =
     let q : take (length (b .list .entries)) (readInto s (b .store) (b .head) pages entries .entries) ≡ b .list .entries =
     ap (λ (x : ReadEffect). take (length (b .list .entries)) (x .entries)) e ∙ take-sets entries (b .list .entries) k in
     record { list = λ i. record { pages = p i; entries = q i }; P = refl; L = refl; start = refl }
+
+-- ---- values
+
+-- A value whose pages, as its writer makes them, stand in the store at their numbers is one that its reader gets.
+pub written-value : (s : ℕ) → PageSize s → (store value hash numbers : List ℕ) → Kept s store value numbers → length hash ≡ hashSize
+    → GetsValue s store (record { cell = cellBytes (cellFor value hash numbers); hash = hash; numbers = numbers; bytes = value })
+unfolding decodeCellInto
+written-value s size store value hash numbers kept long =
+    let c = cellFor value hash numbers in
+    let counted : length (c .numbers) ≡ cellCount (cellBytes c) = sym (count-encoded c (kept .few) long) in
+    record {
+      cell = λ h. rw (decode-back size kept hash long, counted);
+      value = λ table buffer room fits. read-back size kept hash long table (omega (arith, kept .count)) buffer fits;
+    }

@@ -5,3 +5,4 @@ pub mod WritesLaws
 pub mod RollbackLaws
 pub mod SeasonsLaws
 pub mod BridgeLaws
+pub mod Witness
