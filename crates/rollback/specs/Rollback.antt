@@ -79,5 +79,4 @@ pub record Cut (s : ℕ) (a : State) (after : List ℕ) : Type 0 where
 
 -- demand 3: after the cut the first head and the first cells read as they did
 abbrev pub Rollback : ℕ → Type 0
-Rollback s = (a : State) (after : List ℕ) → Good s a → Cut s a after
-    → GetsList s after (a .head) (a .list) × ((x : Value) → List·Memᴰ x (a .values) → GetsValue s after x)
+Rollback s = (a : State) (after : List ℕ) → Good s a → Cut s a after → GetsList s after (a .head) (a .list) × ((x : Value) → List·Memᴰ x (a .values) → GetsValue s after x)
