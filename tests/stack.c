@@ -1,4 +1,4 @@
-/* Reads long lists and finishes large saves in a thread with a small stack. The stack that a reading
+/* Reads long lists, finishes large saves and walks over the largest value in a thread with a small stack. The stack that a reading
  * takes must not grow with the list or the store; a finish nests a call for each list page that it
  * uses up, of which there is one to about a million freed numbers. */
 #define _DEFAULT_SOURCE
@@ -15,7 +15,7 @@
 #define FULL 1022
 
 static int failures;
-static int calls;
+static int checks;
 
 /* A store of zeros that takes memory only for the pages that are touched. */
 static uint8_t *new_store(size_t pages) {
@@ -75,7 +75,7 @@ static void write_page(uint8_t *store, size_t pages, uint32_t page, uint32_t pre
 }
 
 static void expect(const char *call, int right) {
-    calls++;
+    checks++;
     if (!right) {
         failures++;
         printf("%s: wrong\n", call);
@@ -184,11 +184,58 @@ static void large_save(const char *call, uint32_t list) {
     munmap(buffer, (size_t)room * PAGE);
 }
 
+/* A value of 2^29 bytes, written page by page, read and deleted. */
+static void largest_value(void) {
+    const size_t size = MOPSIENNA_MAX_SIZE;
+    const uint32_t total = 131329, first = 7;
+    const size_t pages = first + total;
+    uint8_t *store = new_store(pages);
+    uint8_t *value = new_store(size / PAGE);
+    uint8_t *back = new_store(size / PAGE + 1);
+    uint32_t *numbers = new_table(total);
+    uint32_t *found = new_table(total + 1);
+    uint8_t hash[32] = {0}, cell[100];
+    uint64_t out[8];
+    for (size_t i = 0; i < size; i++)
+        value[i] = (uint8_t)(i ^ (i >> 9) ^ (i >> 17));
+    /* The pages stand in the store from its end down. */
+    for (uint32_t i = 0; i < total; i++)
+        numbers[i] = first + total - 1 - i;
+
+    int written = 1;
+    for (uint32_t i = 0; i < total; i++)
+        written = written && mopsienna_write_value_page(value, size, numbers, total, i,
+                                                        store + (size_t)numbers[i] * PAGE, PAGE) == 0;
+    expect("the largest value, written",
+           written && mopsienna_encode_cell(size, hash, numbers, 15, cell, sizeof cell) == 0);
+
+    fill(out);
+    uint32_t got = mopsienna_read_value(cell, sizeof cell, store, pages * PAGE, found, total + 1, back,
+                                        size + PAGE, out);
+    expect("the largest value, read",
+           got == 0 && out[0] == size && out[1] == total && untouched(out, 2) && back[size] == 0 &&
+               memcmp(value, back, size) == 0 && found[total] == UNTOUCHED &&
+               memcmp(numbers, found, total * sizeof *numbers) == 0);
+
+    fill(out);
+    memset(found, 0, total * sizeof *found);
+    got = mopsienna_delete_value(cell, sizeof cell, store, pages * PAGE, found, total + 1, out);
+    expect("the largest value, deleted",
+           got == 0 && out[0] == total && untouched(out, 1) &&
+               memcmp(numbers, found, total * sizeof *numbers) == 0);
+    free(found);
+    free(numbers);
+    munmap(back, size + PAGE);
+    munmap(value, size);
+    munmap(store, pages * PAGE);
+}
+
 static void *run(void *unused) {
     endless();
     long_list();
     large_save("ten million freed, no list", 0);
     large_save("ten million freed, a list of 3,000 full pages", 3000);
+    largest_value();
     return unused;
 }
 
@@ -200,6 +247,6 @@ int main(void) {
         fprintf(stderr, "stack: no thread\n");
         return 2;
     }
-    printf("stack: %d calls, %d wrong\n", calls, failures);
+    printf("stack: %d checks, %d wrong\n", checks, failures);
     return failures != 0;
 }

@@ -81,6 +81,9 @@ pub record Samples : Type 0 where
       finish (list (10 ∷ []) (20 ∷ 21 ∷ [])) 30 0 (15 ∷ []) ≡ becomes (list (21 ∷ []) (20 ∷ 15 ∷ 10 ∷ [])) 30 (page 21 0 (20 ∷ 15 ∷ 10 ∷ []) ∷ [])
   pub finish-empty-list : finish (list [] []) 30 2 [] ≡ becomes (list [] []) 32 []
   pub finish-empty-list-freed : finish (list [] []) 30 0 (5 ∷ []) ≡ becomes (list (30 ∷ []) (5 ∷ [])) 31 (page 30 0 (5 ∷ []) ∷ [])
+  pub all-popped-first : next (list (10 ∷ []) (20 ∷ [])) 30 0 ≡ handed 20 (save (list (10 ∷ []) (20 ∷ [])) 30 1)
+  pub all-popped-second : next (list (10 ∷ []) (20 ∷ [])) 30 1 ≡ handed 30 (save (list (10 ∷ []) (20 ∷ [])) 30 2)
+  pub all-popped-third : next (list (10 ∷ []) (20 ∷ [])) 30 2 ≡ handed 31 (save (list (10 ∷ []) (20 ∷ [])) 30 3)
   pub finish-all-popped : finish (list (10 ∷ []) (20 ∷ [])) 30 3 [] ≡ becomes (list (32 ∷ []) (10 ∷ [])) 33 (page 32 0 (10 ∷ []) ∷ [])
   pub total-61380 : total 61380 ≡ 15
   pub total-61381 : total 61381 ≡ 16
@@ -89,6 +92,7 @@ pub record Samples : Type 0 where
   pub total-4243402 : total 4243402 ≡ 1038
   pub total-4243403 : total 4243403 ≡ 1039
   pub total-4243404 : total 4243404 ≡ 1039
+  pub total-4243403-less-would-do : body pageSize * 1038 ≡ 4243403 + 4 * (1038 - cellNumbers) + 1
   pub total-4243404-less-would-do : body pageSize * 1038 ≡ 4243404 + 4 * (1038 - cellNumbers)
   pub total-largest : total (2 ^ 29) ≡ 131329
   pub layout-61381-numbers-0 : numbers 61381 0 ≡ 1
