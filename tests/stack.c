@@ -82,9 +82,9 @@ static void expect(const char *call, int right) {
     }
 }
 
-/* Two full pages that point at each other: the walk ends after as many pages as the store has. */
+/* Two full pages that point at each other in a store of 2^28 pages, which is 1 TiB: the walk sees that it has come back. */
 static void endless(void) {
-    const size_t pages = (size_t)1 << 20;
+    const size_t pages = (size_t)1 << 28;
     uint8_t *store = new_store(pages);
     uint32_t *table = new_table(2);
     uint64_t out[8];

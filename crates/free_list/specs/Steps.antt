@@ -1,6 +1,8 @@
 -- The reader's work in parts: the walk that only reads, and the filling of the tables. Only private functions cite these.
 use Prim.Native.Nat.{ℕ, zero, suc, _+_, _*_, _^_, _≤_, _<_}
 use mathlib.Core.Path.{_≡_}
+use mathlib.Core.Logic.{_⊎_}
+use mathlib.Core.Bool.{true}
 use mathlib.Core.List.{List}
 use lib.ListN.{length}
 use Rattle.refusal.specs.Outcome.{Outcome, answer, withAnswer}
@@ -9,7 +11,7 @@ use Rattle.page.specs.PageSize.{capacity}
 use Rattle.page.specs.Pages.{pageCount, pageAt}
 use Rattle.free_list.specs.ListPages.{prevOf, countOf, entriesOf}
 use Rattle.free_list.specs.Shape.{FreeList}
-use Rattle.free_list.specs.Reading.{emptyList, onTop, readFrom, readList, ListSize, sizeOf}
+use Rattle.free_list.specs.Reading.{emptyList, onTop, entriesFit, readFrom, readList, ListSize, sizeOf}
 use Rattle.free_list.specs.declared.walk.Walk.{Walk}
 use Rattle.free_list.specs.declared.walk.Visited.{Visited}
 use Rattle.free_list.specs.declared.walk.Visited.the-variants.{Next, Unfit}
@@ -41,15 +43,38 @@ pub record Sound (w : Walk) : Type 0 where
   pub few : w .pages + w .allowed < 2 ^ 32
   pub held : w .entries ≤ 16384 * w .pages
 
--- a visit uses up one of the pages allowed, a walk as many as it may nest
-abbrev pub Advanced : Walk → Visited → Type 0
-Advanced w (Next n) = (n .allowed + 1 ≡ w .allowed) × Sound n
-Advanced w (Unfit r) = Unit {0}
+-- a page that is passed wherever it stands below the second page of a list: it is full, and its entries fit
+pub record Whole (s : ℕ) (store : List ℕ) (p : ℕ) : Type 0 where
+  pub some : 1 ≤ p
+  pub inside : p < pageCount s store
+  pub full : countOf (pageAt s store p) ≡ capacity s
+  pub fit : entriesFit (pageCount s store) (entriesOf (pageAt s store p)) ≡ true
 
-abbrev pub Onward : Walk → ℕ → Walked → Type 0
-Onward w nested (Ended l) = Unit {0}
-Onward w nested (More n) = (n .allowed + nested ≡ w .allowed) × Sound n
-Onward w nested (Stopped r) = Unit {0}
+-- from page p a walk comes to page q by n such pages
+abbrev pub Trail : ℕ → List ℕ → ℕ → ℕ → ℕ → Type 0
+Trail s store zero p q = p ≡ q
+Trail s store (suc n) p q = Whole s store p × Trail s store n (prevOf (pageAt s store p)) q
+
+-- the walk has come from the marked page by such pages; 0 is no mark
+abbrev pub Marked : ℕ → List ℕ → ℕ → Walk → Type 0
+Marked s store mark w = (mark ≡ 0) ⊎ ((n : ℕ) × (2 ≤ w .pages) × Trail s store n mark (w .page))
+
+-- a visit passes a page and uses up one of the pages allowed, a walk as many as it may nest
+pub record Passed (s : ℕ) (store : List ℕ) (w n : Walk) : Type 0 where
+  pub fewer : n .allowed + 1 ≡ w .allowed
+  pub sound : Sound n
+  pub more : n .pages ≡ w .pages + 1
+  pub before : n .page ≡ prevOf (pageAt s store (w .page))
+  pub whole : 2 ≤ w .pages → Whole s store (w .page)
+
+abbrev pub Advanced : ℕ → List ℕ → Walk → Visited → Type 0
+Advanced s store w (Next n) = Passed s store w n
+Advanced s store w (Unfit r) = Unit {0}
+
+abbrev pub Onward : ℕ → List ℕ → ℕ → Walk → ℕ → Walked → Type 0
+Onward s store mark w nested (Ended l) = Unit {0}
+Onward s store mark w nested (More n) = (n .allowed + nested ≡ w .allowed) × Sound n × Marked s store mark n
+Onward s store mark w nested (Stopped r) = Unit {0}
 
 -- the list of k pages from page p down, whatever they hold
 unfoldable pub chainFrom : ℕ → List ℕ → ℕ → ℕ → FreeList

@@ -62,7 +62,8 @@ pub fn read_list(
     }
 }
 
-// The size of the list, or why it is refused: the walk, as often as it takes.
+// The size of the list, or why it is refused: the walk, as often as it takes. Where it stands is marked each time that it has come
+// twice as far, so that a list whose pages point at each other is seen soon after the walk has gone round once.
 fn measure(store: &[u8], size: usize, head: u32) -> ReadList
     requires { ⌜ PageSize size ⌝ }
     ensures { λ r. ⌜ readOutcome r ≡ readSize size (now (store .entry)) head ⌝ }
@@ -74,8 +75,10 @@ fn measure(store: &[u8], size: usize, head: u32) -> ReadList
         pages: 0,
         entries: 0,
     };
+    let mut mark = 0;
+    let mut due = 2;
     loop {
-        match walk_down(store, size, count, w, NESTED) {
+        match walk_down(store, size, count, w, mark, NESTED) {
             Walked::Ended(list) => {
                 return ReadList::Read(list);
             }
@@ -84,6 +87,10 @@ fn measure(store: &[u8], size: usize, head: u32) -> ReadList
             }
             Walked::More(next) => {
                 w = next;
+                if due <= next.pages {
+                    mark = next.page;
+                    due = 2 * next.pages;
+                }
             }
         }
     }

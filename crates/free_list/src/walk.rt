@@ -1,14 +1,14 @@
 // The walk down a list, which only reads: it finds out how many pages and entries the list has, or why it is refused.
 ghost use mathlib.Core.Path.{_≡_};
 ghost use mathlib.Core.Bool.{cond, _&&_};
-ghost use lib.Dec.{leb, ltb};
+ghost use lib.Dec.{leb, ltb, eqb};
 ghost use Prim.Native.Nat.{_+_, _*_, _<_, _≤_};
 ghost use lib.ListN.{length};
 ghost use Rattle.page.specs.Bytes.{numbersAt};
 ghost use Rattle.page.specs.PageSize.{PageSize};
 ghost use Rattle.page.specs.Pages.{pageCount};
 ghost use Rattle.free_list.specs.Reading.{countFits, entriesFit};
-ghost use Rattle.free_list.specs.Steps.{sizeFrom, visitedSize, walkedSize, Sound, Advanced, Onward};
+ghost use Rattle.free_list.specs.Steps.{sizeFrom, visitedSize, walkedSize, Sound, Marked, Advanced, Onward};
 use crate::list_page::item;
 use crate::list_page::item_count;
 use crate::list_page::max_pns_per_page;
@@ -83,7 +83,7 @@ fn entries_fit(page: &[u8], n: usize, count: u32) -> bool
 fn visit(store: &[u8], size: usize, count: u32, w: Walk) -> Visited
     requires { ⌜ PageSize size × (count ≡ pageCount size (now store)) × (1 ≤ w .page) × (1 ≤ w .allowed) × Sound w ⌝ }
     ensures size { λ r. ⌜ visitedSize size (now (store .entry)) r ≡ sizeFrom size (now (store .entry)) w ⌝ }
-    ensures advanced { λ r. ⌜ Advanced w r ⌝ }
+    ensures advanced { λ r. ⌜ Advanced size (now (store .entry)) w r ⌝ }
 {
     let page = w.page;
     if count <= page {
@@ -105,12 +105,27 @@ fn visit(store: &[u8], size: usize, count: u32, w: Walk) -> Visited
     })
 }
 
+// Whether a walk has come back to the marked page; 0 is no mark.
+fn is_back(mark: u32, page: u32) -> bool
+    ensures { λ r. ⌜ r ≡ (eqb page mark && leb 1 mark) ⌝ }
+{
+    page == mark && 1 <= mark
+}
+
 // Walks down the list: each call visits a page and calls itself with one page fewer allowed. As a call keeps its frame, it
-// nests only so many of them, and hands back where it stands.
-pub(crate) fn walk_down(store: &[u8], size: usize, count: u32, w: Walk, nested: usize) -> Walked
-    requires { ⌜ PageSize size × (count ≡ pageCount size (now store)) × Sound w ⌝ }
+// nests only so many of them, and hands back where it stands. A walk that comes back to the marked page, all pages on its way full,
+// would go round until no page is allowed.
+pub(crate) fn walk_down(
+    store: &[u8],
+    size: usize,
+    count: u32,
+    w: Walk,
+    mark: u32,
+    nested: usize,
+) -> Walked
+    requires { ⌜ PageSize size × (count ≡ pageCount size (now store)) × Sound w × Marked size (now store) mark w ⌝ }
     ensures size { λ r. ⌜ walkedSize size (now (store .entry)) r ≡ sizeFrom size (now (store .entry)) w ⌝ }
-    ensures onward { λ r. ⌜ Onward w nested r ⌝ }
+    ensures onward { λ r. ⌜ Onward size (now (store .entry)) mark w nested r ⌝ }
 {
     if w.page == 0 {
         return Walked::Ended(ListCounts {
@@ -126,6 +141,11 @@ pub(crate) fn walk_down(store: &[u8], size: usize, count: u32, w: Walk, nested: 
     }
     match visit(store, size, count, w) {
         Visited::Unfit(r) => Walked::Stopped(r),
-        Visited::Next(next) => walk_down(store, size, count, next, nested - 1),
+        Visited::Next(next) => {
+            if is_back(mark, next.page) {
+                return Walked::Stopped(Refusal::Chain);
+            }
+            walk_down(store, size, count, next, mark, nested - 1)
+        }
     }
 }

@@ -1,7 +1,7 @@
 -- `visit` meets its contract: its tests are those of the definition, in order.
 -- Assumes nothing.
 use Prim.Native.Nat.{ℕ, _+_, _*_, _-_, _<_, _≤_}
-use mathlib.Core.Path.{_≡_, sym, _∙_, ap}
+use mathlib.Core.Path.{_≡_, refl, sym, _∙_, ap}
 use mathlib.Core.Bool.{Bool, true, false}
 use mathlib.Core.List.{List, [], _∷_}
 use native.Mathlib.Omega.{arith}
@@ -15,9 +15,10 @@ use Rattle.page.proofs.PageSizeLaws.{page-least}
 use Rattle.page.proofs.PagesLaws.{page-within, length-pageAt}
 use Rattle.free_list.specs.ListPages.{prevOf, countOf, entriesOf}
 use Rattle.free_list.specs.Reading.{countFits, entriesFit}
-use Rattle.free_list.specs.Steps.{sizeFrom, Sound}
+use Rattle.free_list.specs.Steps.{sizeFrom, Sound, Passed}
 use Rattle.free_list.specs.declared.walk.Walk.{Walk}
 use Rattle.free_list.proofs.ReadingLaws.{countFits-small, size-past, size-count, size-entry, size-next}
+use Rattle.free_list.proofs.RoundLaws.{full-fits}
 use borrow.Author.Needs.{needs}
 use Rattle.free_list.proofs.walk.visit.Statement.{statement}
 use Rattle.free_list.proofs.walk.visit.Tie as tie
@@ -63,9 +64,17 @@ module _ {s count : ℕ} {store b : List ℕ} {n most : ℕ} (w : Walk) (more : 
     next : {q : ℕ} → q ≡ prevOf b → entries ≡ true → sizeFrom s store (record { page = q; allowed = w .allowed - 1; pages = w .pages + 1; entries = w .entries + n }) ≡ sizeFrom s store w
     next {q} before e = rw (before, counted, f .bytes) (size-next s store w more page (f .inside) (count-of fit) (entries-of e))
 
-    next-sound : (q : ℕ) → Sound w → Sound (record { page = q; allowed = w .allowed - 1; pages = w .pages + 1; entries = w .entries + n })
+    -- the page is passed
+    next-passed : {q : ℕ} → q ≡ prevOf b → entries ≡ true → Sound w → Passed s store w (record { page = q; allowed = w .allowed - 1; pages = w .pages + 1; entries = w .entries + n })
     unfolding capacity
-    next-sound q sound = record { few = omega (arith, sound .few); held = omega (arith, sound .held, small fit, f .page .limit) }
+    next-passed before e sound =
+        record {
+          fewer = omega arith;
+          sound = record { few = omega (arith, sound .few); held = omega (arith, sound .held, small fit, f .page .limit) };
+          more = refl;
+          before = before ∙ ap prevOf (f .bytes);
+          whole = λ h. record { some = page; inside = f .inside; full = full-fits (capacity s) (w .pages) (w .entries) (countOf (pageAt s store (w .page))) h (count-of fit); fit = entries-of e };
+        }
 
 returns : tie.Need-returns
 returns c = (size-past _ _ _ (c .before .before .pre .3) (c .before .before .pre .2) (omega (arith, c .before .before .pre .1, c .if1 .taken)), tt)
@@ -115,7 +124,7 @@ add-t17 c = search needs
 returns-4 : tie.Need-returns-4
 returns-4 c =
     let f = found (c .before .before .before .before .before .before .before .before .before .before .before .before .before .pre .0) (c .before .before .before .before .before .before .before .before .before .before .before .before .before .pre .1) (c .before .before .before .before .before .before .before .before .before .before .before .if1 .left) (c .before .before .before .before .before .before .before .before .before .before .page-at .ensures) in
-    (next (c .before .before .before .before .before .before .before .before .before .before .before .before .before .args .w) (c .before .before .before .before .before .before .before .before .before .before .before .before .before .pre .3) (c .before .before .before .before .before .before .before .before .before .before .before .before .before .pre .2) f (c .before .before .before .before .before .before .before .before .before .item-count .ensures) (c .before .before .before .before .before .before .before .before .max-pns-per-page .ensures) (c .before .before .before .before .before .before .before .count-fits .ensures) (not-false _ (c .before .before .before .before .before .before .if2 .left)) (c .before .before .before .before .before .entries-fit .ensures) (c .before .before .before .prev-pn .ensures) (not-false _ (c .before .before .before .before .if3 .left)), (omega (arith, c .before .before .before .before .before .before .before .before .before .before .before .before .before .pre .3), next-sound (c .before .before .before .before .before .before .before .before .before .before .before .before .before .args .w) (c .before .before .before .before .before .before .before .before .before .before .before .before .before .pre .3) (c .before .before .before .before .before .before .before .before .before .before .before .before .before .pre .2) f (c .before .before .before .before .before .before .before .before .before .item-count .ensures) (c .before .before .before .before .before .before .before .before .max-pns-per-page .ensures) (c .before .before .before .before .before .before .before .count-fits .ensures) (not-false _ (c .before .before .before .before .before .before .if2 .left)) (c .before .before .before .before .before .entries-fit .ensures) _ (c .before .before .before .before .before .before .before .before .before .before .before .before .before .pre .4)))
+    (next (c .before .before .before .before .before .before .before .before .before .before .before .before .before .args .w) (c .before .before .before .before .before .before .before .before .before .before .before .before .before .pre .3) (c .before .before .before .before .before .before .before .before .before .before .before .before .before .pre .2) f (c .before .before .before .before .before .before .before .before .before .item-count .ensures) (c .before .before .before .before .before .before .before .before .max-pns-per-page .ensures) (c .before .before .before .before .before .before .before .count-fits .ensures) (not-false _ (c .before .before .before .before .before .before .if2 .left)) (c .before .before .before .before .before .entries-fit .ensures) (c .before .before .before .prev-pn .ensures) (not-false _ (c .before .before .before .before .if3 .left)), next-passed (c .before .before .before .before .before .before .before .before .before .before .before .before .before .args .w) (c .before .before .before .before .before .before .before .before .before .before .before .before .before .pre .3) (c .before .before .before .before .before .before .before .before .before .before .before .before .before .pre .2) f (c .before .before .before .before .before .before .before .before .before .item-count .ensures) (c .before .before .before .before .before .before .before .before .max-pns-per-page .ensures) (c .before .before .before .before .before .before .before .count-fits .ensures) (not-false _ (c .before .before .before .before .before .before .if2 .left)) (c .before .before .before .before .before .entries-fit .ensures) (c .before .before .before .prev-pn .ensures) (not-false _ (c .before .before .before .before .if3 .left)) (c .before .before .before .before .before .before .before .before .before .before .before .before .before .pre .4))
 
 pub visit-spec : {M : Type 1} → statement M
 visit-spec =
