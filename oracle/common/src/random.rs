@@ -21,6 +21,17 @@ impl Random {
         self.bits() % limit
     }
 
+    /// One of these, of which there is at least one.
+    pub fn pick<T: Copy>(&mut self, from: &[T]) -> T {
+        from[self.below(from.len() as u64) as usize]
+    }
+
+    pub fn fill(&mut self, bytes: &mut [u8]) {
+        for part in bytes.chunks_mut(8) {
+            part.copy_from_slice(&self.bits().to_le_bytes()[..part.len()]);
+        }
+    }
+
     /// A number of at most `bits` bits, 1 to 64: small ones come as often as large ones.
     pub fn of_any_length(&mut self, bits: u32) -> u64 {
         let length = 1 + self.below(bits.into());

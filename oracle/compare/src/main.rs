@@ -3,8 +3,10 @@
 //! Exits with 0 if they agree everywhere, 1 if they disagree, 2 if the comparison could not be
 //! made.
 
+mod form;
 mod grow;
 mod lists;
+mod panics;
 mod report;
 mod saves;
 mod self_test;

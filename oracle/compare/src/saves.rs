@@ -14,7 +14,7 @@ mod library;
 mod model;
 mod states;
 
-use crate::{report::Report, Plan};
+use crate::{form::Form, report::Report, Plan};
 use common::Random;
 use kinds::KINDS;
 use model::After;
@@ -22,7 +22,7 @@ use mopsienna_sys::{sized::NO_PAGE_SIZE, Reply, Save};
 use nomt_plain::{Finished, List, Rust, State};
 use std::{collections::BTreeMap, io};
 
-pub use library::{Form, Library, Linked};
+pub use library::{Library, Linked};
 
 /// There are so many saves in random histories, and as many random states, for this many random
 /// cases of other operations, at each of the small page sizes.

@@ -2,9 +2,10 @@
 //! place of what it is lent, and has to report a disagreement there.
 
 use crate::{
+    form::Form,
     grow, lists,
     report::Report,
-    saves::{self, Form, Library, Linked, FINISH, HAND_OUT, READ_BACK},
+    saves::{self, Library, Linked, FINISH, HAND_OUT, READ_BACK},
     totals, Plan,
 };
 use mopsienna_sys::{self as library, Lent, Reply, Save};

@@ -43,10 +43,7 @@ impl Case {
     pub fn new(length: usize, list: Portions, harms: &[Harm]) -> io::Result<Case> {
         let mut store = Store::new(length)?;
         if length <= FILLED {
-            let mut random = Random::new(length as u64);
-            for bytes in store.bytes_mut().chunks_mut(8) {
-                bytes.copy_from_slice(&random.bits().to_le_bytes()[..bytes.len()]);
-            }
+            Random::new(length as u64).fill(store.bytes_mut());
         }
         lists::write(store.bytes_mut(), &list);
         let mut case = Case {

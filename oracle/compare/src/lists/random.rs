@@ -31,7 +31,7 @@ fn random_case(case: u64, random: &mut Random) -> io::Result<Case> {
         MOST
     } else {
         let other_pages = 1 + random.of_any_length(5) as usize;
-        (list_pages + other_pages) * PAGE + pick(random, &[0, 1, PAGE - 1])
+        (list_pages + other_pages) * PAGE + random.pick(&[0, 1, PAGE - 1])
     };
     let list = random_list(list_pages, length / PAGE, random);
     let mut harms = vec![];
@@ -59,7 +59,7 @@ fn random_list(list_pages: usize, store_pages: usize, random: &mut Random) -> Po
     }
     if let [.., head] = list.as_mut_slice() {
         let any = 1 + random.below(FULL as u64) as usize;
-        head.1.truncate(pick(random, &[1, 2, any, any, FULL]));
+        head.1.truncate(random.pick(&[1, 2, any, any, FULL]));
     }
     for entry in list.iter_mut().flat_map(|(_, entries)| entries) {
         *entry = PageNumber(any_page(random));
@@ -75,18 +75,15 @@ fn random_harm(list: &Portions, length: usize, large: bool, random: &mut Random)
         .get(random.below(1 + pages.len() as u64) as usize)
         .copied();
     let any = random.bits() as u32;
-    let number = pick(
-        random,
-        &[
-            0,
-            1,
-            store_pages - 1,
-            store_pages,
-            any % store_pages,
-            any,
-            of_the_list.unwrap_or(2),
-        ],
-    );
+    let number = random.pick(&[
+        0,
+        1,
+        store_pages - 1,
+        store_pages,
+        any % store_pages,
+        any,
+        of_the_list.unwrap_or(2),
+    ]);
     if random.below(8) == 0 {
         return (!large).then(|| match random.below(2) {
             0 => Head(number),
@@ -101,7 +98,7 @@ fn random_harm(list: &Portions, length: usize, large: bool, random: &mut Random)
         0 => {
             let full = FULL as u16;
             let counts = [0, 1, 2, full - 2, full - 1, full, full + 1, any as u16];
-            Count(page, pick(random, &counts))
+            Count(page, random.pick(&counts))
         }
         1 | 2 => Entry(page, place, number),
         3 => Prev(page, number),
@@ -112,8 +109,4 @@ fn random_harm(list: &Portions, length: usize, large: bool, random: &mut Random)
             Byte(page as usize * PAGE + byte, any as u8)
         }
     })
-}
-
-fn pick<T: Copy>(random: &mut Random, from: &[T]) -> T {
-    from[random.below(from.len() as u64) as usize]
 }

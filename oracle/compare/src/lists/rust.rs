@@ -1,6 +1,7 @@
 //! The Rust's reading of a list.
 
 use super::case::Case;
+use crate::panics::unless_panic;
 use nomt_4096::{
     beatree::allocator::{
         probe::free_list::{decode_free_list_page, FreeList},
@@ -8,7 +9,6 @@ use nomt_4096::{
     },
     io::{PagePool, PAGE_SIZE},
 };
-use std::panic::{catch_unwind, set_hook, take_hook, UnwindSafe};
 
 /// What the Rust does with a list.
 pub enum Rust {
@@ -60,13 +60,4 @@ fn runs_on(case: &Case) -> bool {
         }
     }
     0 < number && number < page_count
-}
-
-/// What the call gives, or nothing if it panics, which is not shown.
-fn unless_panic<T>(call: impl FnOnce() -> T + UnwindSafe) -> Option<T> {
-    let hook = take_hook();
-    set_hook(Box::new(|_| ()));
-    let result = catch_unwind(call);
-    set_hook(hook);
-    result.ok()
 }

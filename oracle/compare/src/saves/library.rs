@@ -1,15 +1,7 @@
 //! The library's functions of lists and saves, with and without a page size.
 
+use crate::form::Form;
 use mopsienna_sys::{self as linked, sized, Lent, Reply, Save};
-
-/// Which of the library's functions are called.
-#[derive(Clone, Copy, PartialEq)]
-pub enum Form {
-    /// Those of libmopsienna, whose page size is 4,096.
-    Fixed,
-    /// Those that take the page size with each call.
-    Sized(u64),
-}
 
 pub trait Library {
     fn read_list(
