@@ -1,7 +1,9 @@
 //! The C functions of libmopsienna, each as a safe function.
 //!
-//! The functions of libsized are those of the list and the save at any page size; a module of their
-//! own holds them.
+//! The functions of libsized are those of lists, saves and values at any page size; modules of
+//! their own hold them.
+
+pub mod values;
 
 use std::fmt;
 
