@@ -4,7 +4,9 @@
 
 pub mod io;
 mod plain;
+mod values;
 
 pub use plain::Plain;
+pub use values::reader;
 
 include!(concat!(env!("OUT_DIR"), "/nomt.rs"));

@@ -13,7 +13,7 @@ use std::{fs::File, io, sync::Arc};
 /// The Rust's store. The file only gets lengths: no page is read or written.
 pub struct Plain(Store);
 
-pub struct Save(SyncAllocator, SyncFinisher);
+pub struct Save(pub(crate) SyncAllocator, SyncFinisher);
 
 impl Rust for Plain {
     const PAGE_SIZE: usize = PAGE_SIZE;
@@ -91,6 +91,6 @@ fn held(list: &free_list::FreeList) -> Held {
     }
 }
 
-fn numbers(plain: &[u32]) -> Vec<PageNumber> {
+pub(crate) fn numbers(plain: &[u32]) -> Vec<PageNumber> {
     plain.iter().copied().map(PageNumber).collect()
 }

@@ -1,6 +1,11 @@
-//! The Rust's saves in plain numbers: one trait that the package of every page size implements.
+//! The Rust's saves in plain numbers: one trait that the package of every page size implements, and
+//! another for its values.
+
+mod values;
 
 use std::{fs::File, io};
+
+pub use values::{Cell, Chunked, Values};
 
 /// Each list page's number and entries, from the bottom page up.
 pub type List = Vec<(u32, Vec<u32>)>;
