@@ -11,6 +11,7 @@ mod report;
 mod saves;
 mod self_test;
 mod totals;
+mod values;
 
 use std::{env, io, process::ExitCode};
 
@@ -56,17 +57,19 @@ fn main() -> ExitCode {
 /// Compares every operation. Tells whether all agree.
 fn compare(plan: &Plan) -> io::Result<bool> {
     println!(
-        "seed {}, {} random cases each, {} of lists, {} of saves",
+        "seed {}, {} random cases each, {} of lists, {} of saves, {} of values",
         plan.seed,
         plan.count,
         plan.count / lists::RANDOM_SHARE,
-        plan.count / saves::RANDOM_SHARE
+        plan.count / saves::RANDOM_SHARE,
+        plan.count / values::RANDOM_SHARE
     );
-    let operations: [&dyn Fn() -> io::Result<Vec<report::Report>>; 4] = [
+    let operations: [&dyn Fn() -> io::Result<Vec<report::Report>>; 5] = [
         &|| Ok(vec![grow::compare(plan, mopsienna_sys::grow)?]),
         &|| Ok(vec![totals::compare(plan, mopsienna_sys::total)]),
         &|| Ok(vec![lists::compare(plan, mopsienna_sys::read_list)?]),
         &|| Ok(saves::compare(plan, &saves::Linked)?.into()),
+        &|| Ok(values::compare(plan, &values::Linked)?.into()),
     ];
     let mut agreed = true;
     for operation in operations {

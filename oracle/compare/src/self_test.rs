@@ -1,18 +1,23 @@
 //! Shows that the comparisons can fail: each is run with one reply of the library changed, or one
 //! place of what it is lent, and has to report a disagreement there.
 
+mod changed;
+
 use crate::{
-    form::Form,
     grow, lists,
     report::Report,
-    saves::{self, Library, Linked, FINISH, HAND_OUT, READ_BACK},
-    totals, Plan,
+    saves::{self, FINISH, HAND_OUT, READ_BACK},
+    totals,
+    values::{self, DECODE, DELETE, ENCODE, LOOKUP, OPERATIONS, READ, WRITE},
+    Plan,
 };
-use mopsienna_sys::{self as library, Lent, Reply, Save};
+use changed::Changed;
+use mopsienna_sys::{self as library, Reply};
 use std::{
     cell::{Cell, RefCell},
     collections::BTreeMap,
     io,
+    ops::Range,
 };
 
 /// The parts of a reply: its places, and its number after them.
@@ -58,9 +63,18 @@ pub fn run(plan: &Plan) -> io::Result<bool> {
     ] {
         for call in save_calls(plan, operation)?.into_values() {
             for part in 0..parts {
-                let changed = Saves::new(operation, Some((call, part)));
+                let changed = Changed::new(operation, Some((call, part)));
                 let report = &saves::compare(plan, &changed)?[operation];
                 record(name, call, part, report);
+            }
+        }
+    }
+    for (operation, parts) in VALUE_PARTS {
+        for call in value_calls(plan, operation)?.into_values() {
+            for part in parts.clone() {
+                let changed = Changed::new(operation, Some((call, part)));
+                let report = &values::compare(plan, &changed)?[operation];
+                record(OPERATIONS[operation], call, part, report);
             }
         }
     }
@@ -90,107 +104,27 @@ fn list_calls(plan: &Plan) -> io::Result<BTreeMap<u32, u64>> {
 /// The parts of what is lent to a finish: the first and the last place of each.
 const LENT_PARTS: usize = 8;
 
-/// The library's functions of saves, with one call of one of them changed.
-struct Saves {
-    operation: usize,
-    change: Option<(u64, usize)>,
-    calls: Cell<u64>,
-    /// For each number that a call of the operation gives, the first such call that was lent
-    /// places of everything.
-    first: RefCell<BTreeMap<u32, u64>>,
-}
-
 fn save_calls(plan: &Plan, operation: usize) -> io::Result<BTreeMap<u32, u64>> {
-    let saves = Saves::new(operation, None);
+    let saves = Changed::new(operation, None);
     saves::compare(plan, &saves)?;
     Ok(saves.first.into_inner())
 }
 
-impl Saves {
-    fn new(operation: usize, change: Option<(u64, usize)>) -> Saves {
-        Saves {
-            operation,
-            change,
-            calls: Cell::new(0),
-            first: RefCell::default(),
-        }
-    }
+/// The parts that are changed of each function of values. Writing pages and cells gives a number
+/// alone; of what is lent, it is the first and the last place of each.
+const VALUE_PARTS: [(usize, Range<usize>); 6] = [
+    (WRITE, PARTS - 1..PARTS + 2),
+    (ENCODE, PARTS - 1..PARTS + 2),
+    (DECODE, 0..PARTS + 2),
+    (READ, 0..PARTS + 4),
+    (DELETE, 0..PARTS + 2),
+    (LOOKUP, 0..PARTS),
+];
 
-    /// The reply, with what is to be changed of it. `lent` tells whether everything lent has
-    /// places, and `change` changes one of them.
-    fn pass(
-        &self,
-        operation: usize,
-        reply: Reply,
-        lent: bool,
-        change: impl FnOnce(usize),
-    ) -> Reply {
-        if operation != self.operation {
-            return reply;
-        }
-        let call = self.calls.replace(self.calls.get() + 1);
-        if lent {
-            self.first.borrow_mut().entry(reply.number).or_insert(call);
-        }
-        match self.change.filter(|change| change.0 == call) {
-            Some((_, part)) if part < PARTS => changed_if(true, part, reply),
-            Some((_, part)) => {
-                change(part - PARTS);
-                reply
-            }
-            None => reply,
-        }
-    }
-}
-
-impl Library for Saves {
-    fn read_list(
-        &self,
-        form: Form,
-        store: &[u8],
-        head: u32,
-        pages: &mut [u32],
-        entries: &mut [u32],
-    ) -> Reply {
-        let reply = Linked.read_list(form, store, head, pages, entries);
-        self.pass(READ_BACK, reply, true, |part| match part {
-            0 | 1 => change_end(pages, part),
-            _ => change_end(entries, part),
-        })
-    }
-
-    fn hand_out(&self, form: Form, save: &Save, pages: &[u32], entries: &[u32]) -> Reply {
-        let reply = Linked.hand_out(form, save, pages, entries);
-        self.pass(HAND_OUT, reply, true, |_| ())
-    }
-
-    fn finish(&self, form: Form, save: &Save, freed: &[u32], lent: &mut Lent) -> Reply {
-        let reply = Linked.finish(form, save, freed, lent);
-        let lengths = [
-            lent.pages.len(),
-            lent.entries.len(),
-            lent.buffer.len(),
-            lent.numbers.len(),
-        ];
-        let places = !lengths.contains(&0);
-        self.pass(FINISH, reply, places, |part| match part {
-            0 | 1 => change_end(&mut lent.pages, part),
-            2 | 3 => change_end(&mut lent.entries, part),
-            4 | 5 => change_end(&mut lent.buffer, part),
-            _ => change_end(&mut lent.numbers, part),
-        })
-    }
-}
-
-/// Changes one bit of the first place if the part is even, else of the last.
-fn change_end<T: std::ops::BitXorAssign + From<u8>>(places: &mut [T], part: usize) {
-    let place = match part % 2 {
-        0 => places.first_mut(),
-        _ => places.last_mut(),
-    };
-    if let Some(place) = place {
-        *place ^= T::from(1);
-    }
+fn value_calls(plan: &Plan, operation: usize) -> io::Result<BTreeMap<u32, u64>> {
+    let values = Changed::new(operation, None);
+    values::compare(plan, &values)?;
+    Ok(values.first.into_inner())
 }
 
 fn compare_lists_changed(plan: &Plan, call: u64, part: usize) -> io::Result<Report> {

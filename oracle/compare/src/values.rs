@@ -1,0 +1,257 @@
+//! Values: writing their pages and cells, reading and deleting them; and page lookup. All but cells
+//! at several page sizes.
+//!
+//! What stands on a page and in a cell comes from the Rust. The Rust stops in other ways than the
+//! library, so what to expect of reading and deleting comes from a model of document 01. What the
+//! model reads or deletes the Rust has to read or delete in the same way; what it does with the rest
+//! is counted.
+
+mod calls;
+mod case;
+mod cells;
+mod chains;
+mod damage;
+mod fixed;
+mod largest;
+mod lent;
+mod library;
+mod lookups;
+mod model;
+mod walks;
+mod written;
+
+use crate::{form::Form, report::Report, Plan};
+use common::Random;
+use mopsienna_sys::{sized::NO_PAGE_SIZE, Reply};
+use nomt_plain::Values;
+use std::{collections::BTreeMap, io};
+
+pub use library::{Library, Linked};
+
+/// There is one random value of each kind for so many random cases of other operations, at each of
+/// the small page sizes.
+pub const RANDOM_SHARE: u64 = 50;
+
+/// The reports, in this order.
+pub const WRITE: usize = 0;
+pub const ENCODE: usize = 1;
+pub const DECODE: usize = 2;
+pub const READ: usize = 3;
+pub const DELETE: usize = 4;
+pub const LOOKUP: usize = 5;
+
+pub const OPERATIONS: [&str; 6] = [
+    "write_value_page",
+    "encode_cell",
+    "decode_cell",
+    "read_value",
+    "delete_value",
+    "lookup",
+];
+
+/// How much is compared.
+#[derive(Clone, Copy, PartialEq)]
+pub enum Extent {
+    /// As little as reaches every reply.
+    Least,
+    Short,
+    Long,
+}
+
+/// Compares the library's functions of values and of page lookup.
+pub fn compare(plan: &Plan, library: &dyn Library) -> io::Result<[Report; 6]> {
+    let extent = match (plan.short, plan.count) {
+        (true, 0..=10_000) => Extent::Least,
+        (true, _) => Extent::Short,
+        _ => Extent::Long,
+    };
+    let cases = plan.count / RANDOM_SHARE;
+    let seed = plan.seed;
+    let mut comparison = Comparison::new(library);
+    comparison.page_sizes();
+    // libmopsienna comes first, so that the first case of a kind is at its page size.
+    comparison.at::<nomt_4096::Plain>(Form::Fixed, extent, seed, cases / 10)?;
+    comparison.small::<nomt_16::Plain>(16, extent, seed, cases)?;
+    if extent == Extent::Least {
+        return Ok(comparison.finish());
+    }
+    comparison.small::<nomt_20::Plain>(20, extent, seed, cases)?;
+    comparison.small::<nomt_24::Plain>(24, extent, seed, cases)?;
+    comparison.small::<nomt_28::Plain>(28, extent, seed, cases)?;
+    comparison.small::<nomt_32::Plain>(32, extent, seed, cases)?;
+    comparison.at::<nomt_1024::Plain>(Form::Sized(1024), extent, seed, cases / 5)?;
+    comparison.at::<nomt_4096::Plain>(Form::Sized(4096), Extent::Least, seed, cases / 50)?;
+    if extent == Extent::Long {
+        let mut random = Random::new(seed);
+        largest::largest::<nomt_4096::Plain>(&mut comparison, Form::Fixed, &mut random)?;
+        largest::one_more::<nomt_4096::Plain>(&mut comparison)?;
+    }
+    Ok(comparison.finish())
+}
+
+/// By refusal and by what the Rust does: how many cases, and the first.
+type Classes = BTreeMap<(u32, &'static str), (u64, String)>;
+
+pub struct Comparison<'a> {
+    library: &'a dyn Library,
+    reports: [Report; 6],
+    /// How many calls of each report were made.
+    calls: [u64; 6],
+    /// How many calls of each report should give 0 and each refusal.
+    replies: [BTreeMap<u32, u64>; 6],
+    classes: [Classes; 6],
+    /// What the cases at hand are called.
+    group: String,
+    /// By group: how many cases were read and deleted on both sides, and how many of them are a
+    /// value that is read, and one that is deleted.
+    groups: BTreeMap<String, [u64; 3]>,
+}
+
+/// The replies that have to be reached, by report.
+const REPLIES: [&[u32]; 6] = [
+    &[0, model::BUFFER, model::SIZE, model::INDEX, NO_PAGE_SIZE],
+    &[0, model::SIZE, model::ROOM],
+    &[0, model::SIZE, model::CELL],
+    &[
+        0,
+        model::SIZE,
+        model::CELL,
+        model::ROOM,
+        model::UNKNOWN,
+        model::PAST_STORE,
+        model::PAGE,
+        model::NUMBERS,
+        model::BYTES,
+        NO_PAGE_SIZE,
+    ],
+    &[
+        0,
+        model::SIZE,
+        model::CELL,
+        model::ROOM,
+        model::UNKNOWN,
+        model::PAST_STORE,
+        model::PAGE,
+        model::NUMBERS,
+        NO_PAGE_SIZE,
+    ],
+    &[0, model::BUFFER, model::PAST_STORE, NO_PAGE_SIZE],
+];
+
+impl<'a> Comparison<'a> {
+    fn new(library: &'a dyn Library) -> Comparison<'a> {
+        Comparison {
+            library,
+            reports: OPERATIONS.map(Report::new),
+            calls: [0; 6],
+            replies: Default::default(),
+            classes: Default::default(),
+            group: String::new(),
+            groups: BTreeMap::new(),
+        }
+    }
+
+    /// Everything at one page size, with so many random cases of each kind.
+    fn at<R: Values>(
+        &mut self,
+        form: Form,
+        extent: Extent,
+        seed: u64,
+        cases: u64,
+    ) -> io::Result<()> {
+        let size = match form {
+            Form::Fixed => "libmopsienna".into(),
+            Form::Sized(size) => format!("page size {size:4}"),
+        };
+        let mut random = Random::new(seed);
+        self.group = format!("{size}, harmed");
+        fixed::each::<R>(self, form, extent)?;
+        damage::random::<R>(self, form, &mut random, cases)?;
+        self.group = format!("{size}, written");
+        written::each::<R>(self, form, extent, &mut random, cases)?;
+        self.group = format!("{size}, other chains");
+        chains::each::<R>(self, form, &mut random, cases)?;
+        self.group = format!("{size}, any pages");
+        chains::tangles::<R>(self, form, &mut random, cases)?;
+        cells::each::<R>(self, &mut random, cases);
+        lookups::fixed::<R>(self, form)?;
+        lookups::random::<R>(self, form, &mut random, 10 * cases)
+    }
+
+    /// At a small page size also every harm of some kinds.
+    fn small<R: Values>(
+        &mut self,
+        size: u64,
+        extent: Extent,
+        seed: u64,
+        cases: u64,
+    ) -> io::Result<()> {
+        let mut random = Random::new(seed);
+        self.group = format!("page size {size:4}, every harm");
+        damage::every::<R>(self, Form::Sized(size), extent, &mut random)?;
+        self.at::<R>(Form::Sized(size), extent, seed, cases)
+    }
+
+    /// Counts a call and compares what it gave. `same` tells whether all that was lent is as
+    /// expected.
+    fn count(
+        &mut self,
+        report: usize,
+        expected: &Reply,
+        got: &Reply,
+        same: bool,
+        text: impl FnOnce() -> String,
+    ) {
+        let call = self.calls[report];
+        self.calls[report] += 1;
+        *self.replies[report].entry(expected.number).or_default() += 1;
+        self.reports[report].count(call, same && got == expected, || {
+            format!("call {call}, {}: expected {expected}, got {got}", text())
+        });
+    }
+
+    /// Keeps a disagreement of the Rust with the model.
+    fn disagree(&mut self, report: usize, what: &str, text: impl FnOnce() -> String) {
+        self.reports[report].disagree(self.calls[report], || format!("{}: {what}", text()));
+    }
+
+    /// Counts what the Rust does where the library refuses.
+    fn class(
+        &mut self,
+        report: usize,
+        number: u32,
+        does: &'static str,
+        text: impl FnOnce() -> String,
+    ) {
+        let class = self.classes[report].entry((number, does));
+        class.or_insert_with(|| (0, text())).0 += 1;
+    }
+
+    /// Adds what was reached, and a disagreement for each number that was not.
+    fn finish(mut self) -> [Report; 6] {
+        for (report, numbers) in REPLIES.into_iter().enumerate() {
+            let replies = &self.replies[report];
+            for number in numbers {
+                if !replies.contains_key(number) {
+                    self.reports[report]
+                        .disagree(u64::MAX, || format!("{number} was never reached"));
+                }
+            }
+            let replies: Vec<String> = replies
+                .iter()
+                .map(|(number, calls)| format!("{number}: {calls}"))
+                .collect();
+            self.reports[report].note(format!("replies by number: {}", replies.join(", ")));
+            for ((number, does), (cases, first)) in &self.classes[report] {
+                self.reports[report].note(format!(
+                    "{number} where the Rust {does}: {cases}, first {first}"
+                ));
+            }
+        }
+        self.reports[READ].note("cases on both sides: all; read; deleted".into());
+        for (group, [cases, read, deleted]) in &self.groups {
+            self.reports[READ].note(format!("{group}: {cases}; {read}; {deleted}"));
+        }
+        self.reports
+    }
+}

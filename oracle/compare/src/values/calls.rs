@@ -1,0 +1,147 @@
+//! Calls of the library beside what is expected of them: writing pages, cells, and numbers that are
+//! no page size.
+
+use super::{
+    lent::{numbers_text, untouched_bytes, untouched_numbers},
+    model, Comparison, DECODE, DELETE, ENCODE, LOOKUP, READ, WRITE,
+};
+use crate::{form::Form, panics::unless_panic, report::difference};
+use mopsienna_sys::{sized::NO_PAGE_SIZE, values::Hash, Reply};
+use nomt_plain::Values;
+
+/// The hash before a call.
+pub const UNTOUCHED_HASH: Hash = [0xA5; 32];
+
+impl Comparison<'_> {
+    /// Numbers that are no page size.
+    pub fn page_sizes(&mut self) {
+        for size in [0, 4, 12, 15, 17, 18, 4095, 65_540, 1 << 32, u64::MAX] {
+            let form = Form::Sized(size);
+            let refused = Reply::refusal(NO_PAGE_SIZE, &[]);
+            let text = || format!("page size {size}");
+            let bytes = untouched_bytes(64);
+            let numbers = untouched_numbers(3);
+
+            let mut page = bytes.clone();
+            let reply = self
+                .library
+                .write_value_page(form, &[7], &[1], 0, &mut page);
+            self.count(WRITE, &refused, &reply, page == bytes, text);
+
+            let (cell, store) = (&[0; 44], &[0; 64]);
+            let (mut table, mut value) = (numbers.clone(), bytes.clone());
+            let reply = self
+                .library
+                .read_value(form, cell, store, &mut table, &mut value);
+            let same = table == numbers && value == bytes;
+            self.count(READ, &refused, &reply, same, text);
+
+            let mut table = numbers.clone();
+            let reply = self.library.delete_value(form, cell, store, &mut table);
+            self.count(DELETE, &refused, &reply, table == numbers, text);
+
+            let reply = self.library.lookup(form, &[], &[], store, 0);
+            self.count(LOOKUP, &refused, &reply, true, text);
+        }
+    }
+
+    /// Writing a page of a value, to a buffer of so many bytes, beside the pages of the Rust.
+    pub fn write<R: Values>(
+        &mut self,
+        form: Form,
+        value: &[u8],
+        numbers: &[u32],
+        index: u64,
+        length: usize,
+        pages: &[(u32, Vec<u8>)],
+    ) {
+        let mut got = untouched_bytes(length);
+        let mut expected = got.clone();
+        let refusal = model::write(R::PAGE_SIZE, value.len(), numbers.len(), index, length);
+        let expected_reply = refusal.unwrap_or_else(|| {
+            expected[..R::PAGE_SIZE].copy_from_slice(&pages[index as usize].1);
+            Reply::answer(&[])
+        });
+        let reply = self
+            .library
+            .write_value_page(form, value, numbers, index, &mut got);
+        let same = got == expected;
+        self.count(WRITE, &expected_reply, &reply, same, || {
+            format!(
+                "page size {}, size {}, {}, index {index}, buffer of {length}{}",
+                R::PAGE_SIZE,
+                value.len(),
+                numbers_text(numbers),
+                difference("page", &expected, &got),
+            )
+        });
+    }
+
+    /// Writing a cell to a buffer of so many bytes. Where the Rust panics, the model has to refuse.
+    pub fn encode<R: Values>(&mut self, size: u64, hash: &Hash, numbers: &[u32], length: usize) {
+        let text = || {
+            let numbers = numbers_text(numbers);
+            format!("size {size}, {numbers}, buffer of {length}")
+        };
+        let refusal = model::encode_cell(size, numbers.len(), length);
+        let rust = unless_panic(|| R::encode_cell(size, *hash, numbers));
+        if refusal
+            .as_ref()
+            .is_some_and(|refusal| refusal.number == model::SIZE)
+        {
+            let does = match rust {
+                Some(_) => "writes it",
+                None => "panics",
+            };
+            self.class(ENCODE, model::SIZE, does, text);
+        }
+        let mut got = untouched_bytes(length);
+        let mut expected = got.clone();
+        let expected_reply = match (refusal, rust) {
+            (Some(refusal), _) => refusal,
+            (None, Some(cell)) => {
+                expected[..cell.len()].copy_from_slice(&cell);
+                Reply::answer(&[])
+            }
+            (None, None) => return self.disagree(ENCODE, "the Rust panics", text),
+        };
+        let reply = self.library.encode_cell(size, hash, numbers, &mut got);
+        let same = got == expected;
+        self.count(ENCODE, &expected_reply, &reply, same, || {
+            format!("{}{}", text(), difference("cell", &expected, &got))
+        });
+    }
+
+    /// Reading a cell.
+    pub fn decode<R: Values>(&mut self, cell: &[u8]) {
+        let text = || {
+            format!(
+                "cell of {} bytes: {:?}",
+                cell.len(),
+                &cell[..cell.len().min(8)]
+            )
+        };
+        let rust = unless_panic(|| R::decode_cell(cell));
+        let mut expected = UNTOUCHED_HASH;
+        let expected_reply = match (model::decode_cell(cell), rust) {
+            (Ok(model), Some(rust)) if model == rust => {
+                expected = rust.hash;
+                Reply::answer(&[rust.size, rust.numbers.len() as u64])
+            }
+            (Ok(_), _) => return self.disagree(DECODE, "the Rust reads another cell", text),
+            (Err(refusal), rust) => {
+                let does = match rust {
+                    Some(_) => "reads it",
+                    None => "panics",
+                };
+                self.class(DECODE, refusal.number, does, text);
+                refusal
+            }
+        };
+        let mut hash = UNTOUCHED_HASH;
+        let reply = self.library.decode_cell(cell, &mut hash);
+        self.count(DECODE, &expected_reply, &reply, hash == expected, || {
+            format!("{}{}", text(), difference("hash", &expected, &hash))
+        });
+    }
+}
