@@ -36,6 +36,7 @@ pub fn rows() -> io::Result<Vec<Row>> {
                 calls: (SAMPLE / pages).max(1),
                 ours: list.ours(),
                 theirs,
+                copy: None,
             });
         }
     }

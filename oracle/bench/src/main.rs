@@ -1,20 +1,33 @@
 //! Times libmopsienna beside the Rust, one operation after another.
 
 mod lists;
+mod lookups;
 mod saves;
 mod timing;
+mod values;
 
 use std::{env, io, process::ExitCode};
 use timing::{Row, Side};
 
 const USAGE: &str = "\
-usage: bench [--rounds N] | --once ROW ours|theirs
+usage: bench [--rounds N] [PREFIX] | --once ROW ours|theirs|copy
   --rounds N  samples of each side, 201 if not given
+  PREFIX      only the rows whose names begin so
   --once      one call of one side, for a program that counts instructions";
 
 enum Mode {
-    Compare { rounds: usize },
+    Compare { rounds: usize, prefix: String },
     Once { row: String, side: Side },
+}
+
+impl Mode {
+    /// Whether a row of this name is to be run.
+    fn takes(&self, name: &str) -> bool {
+        match self {
+            Mode::Compare { prefix, .. } => name.starts_with(prefix),
+            Mode::Once { row, .. } => name == row,
+        }
+    }
 }
 
 fn main() -> ExitCode {
@@ -32,26 +45,29 @@ fn main() -> ExitCode {
 }
 
 fn run(mode: Mode) -> io::Result<()> {
-    let operations: [&dyn Fn() -> io::Result<Vec<Row>>; 2] = [&lists::rows, &saves::rows];
+    let takes = |name: &str| mode.takes(name);
+    let operations: [&dyn Fn() -> io::Result<Vec<Row>>; 4] = [
+        &lists::rows,
+        &saves::rows,
+        &|| values::rows(&takes),
+        &lookups::rows,
+    ];
     if let Mode::Compare { .. } = mode {
         println!("{}", timing::HEADING);
     }
     let mut found = false;
     for operation in operations {
-        for mut row in operation()? {
+        for mut row in operation()?.into_iter().filter(|row| takes(&row.name)) {
+            found = true;
             match &mode {
-                Mode::Compare { rounds } => println!("{}", row.compare(*rounds)),
-                Mode::Once { row: name, side } if *name == row.name => {
-                    found = true;
-                    row.once(*side);
-                }
-                Mode::Once { .. } => (),
+                Mode::Compare { rounds, .. } => println!("{}", row.compare(*rounds)),
+                Mode::Once { side, .. } => row.once(*side),
             }
         }
     }
-    match mode {
-        Mode::Once { row, .. } if !found => Err(io::Error::other(format!("no row {row}"))),
-        _ => Ok(()),
+    match found {
+        true => Ok(()),
+        false => Err(io::Error::other("no such row")),
     }
 }
 
@@ -59,20 +75,29 @@ fn mode() -> Option<Mode> {
     let arguments: Vec<String> = env::args().skip(1).collect();
     let arguments: Vec<&str> = arguments.iter().map(String::as_str).collect();
     match arguments.as_slice() {
-        [] => Some(Mode::Compare { rounds: 201 }),
-        ["--rounds", rounds] => rounds
-            .parse()
-            .ok()
-            .filter(|rounds| *rounds > 0)
-            .map(|rounds| Mode::Compare { rounds }),
         ["--once", row, side] => Some(Mode::Once {
             row: row.to_string(),
             side: match *side {
                 "ours" => Side::Ours,
                 "theirs" => Side::Theirs,
+                "copy" => Side::Copy,
                 _ => return None,
             },
         }),
-        _ => None,
+        ["--rounds", rounds, prefix @ ..] => compare(rounds.parse().ok()?, prefix),
+        prefix => compare(201, prefix),
     }
+}
+
+/// All rows, or those that begin with a prefix.
+fn compare(rounds: usize, prefix: &[&str]) -> Option<Mode> {
+    let prefix = match prefix {
+        [] => "",
+        [prefix] if !prefix.starts_with('-') => prefix,
+        _ => return None,
+    };
+    (rounds > 0).then(|| Mode::Compare {
+        rounds,
+        prefix: prefix.to_string(),
+    })
 }

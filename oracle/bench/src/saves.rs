@@ -42,6 +42,7 @@ pub fn rows() -> io::Result<Vec<Row>> {
                 calls: if pages * freed <= 10_000 { 20 } else { 1 },
                 ours: case.ours(written),
                 theirs: case.theirs(),
+                copy: None,
             });
         }
     }
@@ -54,6 +55,7 @@ pub fn rows() -> io::Result<Vec<Row>> {
             calls: 1,
             ours: case.handing_out(),
             theirs: case.allocating(),
+            copy: None,
         });
     }
     Ok(rows)

@@ -1,4 +1,4 @@
-//! Timing of two sides that do the same work.
+//! Timing of two sides that do the same work, and of a plain copy beside them.
 
 use std::time::{Duration, Instant};
 
@@ -11,6 +11,8 @@ pub struct Row {
     pub calls: usize,
     pub ours: Work,
     pub theirs: Work,
+    /// A copy of as many bytes, where the work is to copy bytes.
+    pub copy: Option<Work>,
 }
 
 /// Prepares so many calls, makes them within [`measured`] and gives the time that this took.
@@ -20,26 +22,36 @@ pub type Work = Box<dyn FnMut(usize) -> Duration>;
 pub enum Side {
     Ours,
     Theirs,
+    Copy,
 }
 
 pub const HEADING: &str = "\
-| row | ours | the Rust | ours / the Rust | ours, per page | the Rust, per page |
-|---|---:|---:|---:|---:|---:|";
+| row | ours | the Rust | ours / the Rust | ours, per page | the Rust, per page | memcpy | ours / memcpy |
+|---|---:|---:|---:|---:|---:|---:|---:|";
 
 impl Row {
     /// Takes turns, a sample of each side in every round. Gives a line with the medians.
     pub fn compare(&mut self, rounds: usize) -> String {
         let mut ours = vec![];
         let mut theirs = vec![];
+        let mut copies = vec![];
         for _ in 0..rounds {
             ours.push((self.ours)(self.calls));
             theirs.push((self.theirs)(self.calls));
+            copies.extend(self.copy.as_mut().map(|copy| copy(self.calls)));
         }
         let ours = self.microseconds(ours);
         let theirs = self.microseconds(theirs);
         let pages = self.pages as f64;
+        let copy = match copies.is_empty() {
+            true => "| |".to_string(),
+            false => {
+                let copy = self.microseconds(copies);
+                format!("{copy:.2} µs | {:.2} |", ours / copy)
+            }
+        };
         format!(
-            "| {} | {ours:.2} µs | {theirs:.2} µs | {:.2} | {:.0} ns | {:.0} ns |",
+            "| {} | {ours:.2} µs | {theirs:.2} µs | {:.2} | {:.0} ns | {:.0} ns | {copy}",
             self.name,
             ours / theirs,
             1000.0 * ours / pages,
@@ -50,9 +62,10 @@ impl Row {
     /// Makes one call.
     pub fn once(&mut self, side: Side) {
         match side {
-            Side::Ours => (self.ours)(1),
-            Side::Theirs => (self.theirs)(1),
-        };
+            Side::Ours => drop((self.ours)(1)),
+            Side::Theirs => drop((self.theirs)(1)),
+            Side::Copy => drop(self.copy.as_mut().map(|copy| copy(1))),
+        }
     }
 
     /// The median time of a call.
