@@ -19,7 +19,8 @@ const USAGE: &str = "\
 usage: compare [--short] [--seed N] [--count N] [--self-test]
   --short      some seconds instead of some minutes
   --seed N     the seed of the random cases
-  --count N    random cases for each operation, a twentieth of that for lists and a tenth for saves
+  --count N    random cases for each operation; a twentieth of that for lists, a tenth for saves and
+               a fiftieth for values
   --self-test  see whether wrong replies are caught, over the short form";
 
 /// What is to be compared.
