@@ -7,7 +7,7 @@ export NOMT_SRC
 LIB := target/staticlib/libmopsienna.a
 ORACLE := cargo run --quiet --release --manifest-path oracle/Cargo.toml
 
-.PHONY: run test lib sized interface stack compare bench times
+.PHONY: run test lib sized interface stack compare cuts bench times
 
 # Builds the sizing program and runs it: on standard input, or on a sample where that is a terminal.
 run:
@@ -18,13 +18,15 @@ run:
 test: interface stack sized
 	@if [ -d "$(NOMT_SRC)" ]; then $(ORACLE) -p compare -- --short; \
 	else echo "comparison with the Rust: skipped, there is no $(NOMT_SRC)"; fi
+	@if command -v cargo >/dev/null; then $(ORACLE) -p cuts -- --short && $(ORACLE) -p cuts -- --self-test; \
+	else echo "cuts: skipped, there is no cargo"; fi
 	@rt ci
 
 # The static library, proved.
 lib:
 	@rt staticlib mopsienna >/dev/null || { rt staticlib mopsienna; exit 1; }
 
-# The list operations at any page size, for the comparison.
+# The operations at any page size, for the comparison and the cuts.
 sized:
 	@rt staticlib sized >/dev/null || { rt staticlib sized; exit 1; }
 
@@ -41,6 +43,10 @@ stack: lib
 # The library beside the Rust, at length.
 compare: lib sized
 	@$(ORACLE) -p compare -- $(ARGS)
+
+# Saves cut on a simulated disk, in every way or in many.
+cuts: lib sized
+	@$(ORACLE) -p cuts -- $(ARGS)
 
 # The library and the Rust, timed in turn.
 bench: lib sized

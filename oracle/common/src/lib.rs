@@ -1,7 +1,6 @@
 //! What the programs of this workspace share.
 
 pub mod lists;
-mod random;
 mod store;
 
 pub use memory_file::memory_file;
