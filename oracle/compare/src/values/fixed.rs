@@ -5,7 +5,7 @@ use super::{
         Case,
         Harm::{self, Bytes, Cell, Length, More, Number, Numbers, Size, Zero},
     },
-    model::{last_size, total, CELL_NUMBERS, MAX_SIZE, TOO_LARGE},
+    model::{first_filled, last_size, total, CELL_NUMBERS, MAX_SIZE, TOO_LARGE},
     Comparison, Extent,
 };
 use crate::form::Form;
@@ -16,7 +16,7 @@ use std::io;
 /// pages are large and little is compared, of as many as need a second page with numbers.
 pub fn each<R: Values>(comparison: &mut Comparison, form: Form, extent: Extent) -> io::Result<()> {
     let page = R::PAGE_SIZE;
-    let one_full = CELL_NUMBERS + (page - 4) / 4;
+    let filled = first_filled(page);
     for harms in on_one_page(page) {
         let case = Case::written::<R>(2 * page, 1, &[1], &harms)?;
         comparison.check::<R>(form, &case)?;
@@ -30,8 +30,8 @@ pub fn each<R: Values>(comparison: &mut Comparison, form: Form, extent: Extent) 
         many::<R>(comparison, form, size, &harms)?;
     }
     if page < 1000 || extent != Extent::Least {
-        for harms in on_many_pages(page, one_full) {
-            let size = last_size(page, one_full) + 1;
+        for harms in on_many_pages(page, filled) {
+            let size = last_size(page, filled) + 1;
             many::<R>(comparison, form, size, &harms)?;
         }
     }

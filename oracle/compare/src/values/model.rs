@@ -51,6 +51,11 @@ pub fn last_size(page_size: usize, pages: usize) -> usize {
     fits
 }
 
+/// The total at which the first page of a value is filled with numbers.
+pub fn first_filled(page_size: usize) -> usize {
+    CELL_NUMBERS + (page_size - 4) / 4
+}
+
 /// How many pages a store has.
 pub fn page_count(page_size: usize, store_length: usize) -> usize {
     (store_length / page_size).min(u32::MAX as usize)

@@ -2,7 +2,7 @@
 
 use super::{
     case::{any_hash, distinct, Case},
-    model::{self, last_size, total, CELL_NUMBERS, CELL_START},
+    model::{self, first_filled, last_size, total, CELL_NUMBERS, CELL_START},
     Comparison, Extent, WRITE,
 };
 use crate::{form::Form, panics::unless_panic};
@@ -38,12 +38,12 @@ pub fn each<R: Values>(
 
 /// Up to so many pages sizes are taken.
 fn most_pages<R: Values>(extent: Extent) -> usize {
-    let one_full = CELL_NUMBERS + (R::PAGE_SIZE - 4) / 4;
+    let filled = first_filled(R::PAGE_SIZE);
     match (extent, R::PAGE_SIZE) {
         (Extent::Least, 4096) => 17,
         (Extent::Least, _) => 20,
-        (_, 4096) => one_full + 3,
-        (_, 1024) => 2 * one_full,
+        (_, 4096) => filled + 3,
+        (_, 1024) => 2 * filled,
         (Extent::Short, _) => 60,
         (Extent::Long, _) => 200,
     }
@@ -56,12 +56,12 @@ fn sizes<R: Values>(extent: Extent) -> Vec<usize> {
     if R::PAGE_SIZE < 100 && extent != Extent::Least {
         return (1..=last_size(R::PAGE_SIZE, most)).collect();
     }
-    let one_full = CELL_NUMBERS + (R::PAGE_SIZE - 4) / 4;
+    let filled = first_filled(R::PAGE_SIZE);
     let is_taken = |pages: &usize| {
         extent == Extent::Long
             || (..=2).contains(pages)
             || (CELL_NUMBERS - 1..=CELL_NUMBERS + 2).contains(pages)
-            || (one_full - 1..=one_full + 2).contains(pages)
+            || (filled - 1..=filled + 2).contains(pages)
     };
     let mut sizes = vec![];
     for pages in (1..=most).filter(is_taken) {
