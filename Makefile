@@ -7,7 +7,7 @@ export NOMT_SRC
 LIB := target/staticlib/libmopsienna.a
 ORACLE := cargo run --quiet --release --manifest-path oracle/Cargo.toml
 
-.PHONY: run test lib sized interface stack compare cuts bench times
+.PHONY: run test lib sized interface limits memcheck compare cuts bench times
 
 # Builds the sizing program and runs it: on standard input, or on a sample where that is a terminal.
 run:
@@ -15,7 +15,7 @@ run:
 	@if [ -t 0 ]; then printf '1\n61381\n0\n7a\n' | target/bin/sizing; else target/bin/sizing; fi
 
 # Everything that a change must pass. The gate comes last, and proves all from nothing.
-test: interface stack sized
+test: interface limits sized
 	@if [ -d "$(NOMT_SRC)" ]; then $(ORACLE) -p compare -- --short; \
 	else echo "comparison with the Rust: skipped, there is no $(NOMT_SRC)"; fi
 	@if command -v cargo >/dev/null; then $(ORACLE) -p cuts -- --short && $(ORACLE) -p cuts -- --self-test; \
@@ -35,10 +35,15 @@ interface: lib
 	@cc -std=c11 -Wall -Wextra -Werror -O1 -Iinclude -o target/interface tests/interface.c $(LIB)
 	@target/interface
 
-# Long lists and large saves under a small stack.
-stack: lib
-	@cc -std=c11 -Wall -Wextra -Werror -O1 -pthread -Iinclude -o target/stack tests/stack.c $(LIB)
-	@target/stack
+# The limits: the largest bump, value and stores, under a small stack.
+limits: lib
+	@cc -std=c11 -Wall -Wextra -Werror -O1 -pthread -Iinclude -o target/limits tests/limits.c $(LIB)
+	@target/limits
+
+# Both C programs under valgrind, which must have nothing to report. It maps no store of 1 TiB; here it has 16 GiB.
+memcheck: interface limits
+	@valgrind --quiet --error-exitcode=1 target/interface
+	@valgrind --quiet --error-exitcode=1 target/limits 22
 
 # The library beside the Rust, at length.
 compare: lib sized
