@@ -1,15 +1,17 @@
--- List pages: what is encoded is decoded again, and what is decoded depends only on the bytes in use.
+-- List pages: what is encoded is decoded again, what is decoded depends only on the bytes in use, and bytes that reach far enough say
+-- the same as a page.
 use Prim.Native.Nat.{ℕ, _+_, _*_, _-_, _^_, _<_, _≤_}
 use native.Mathlib.Nat.{zero-add}
 use native.Mathlib.Omega.{arith}
 use mathlib.Core.Path.{_≡_, ap, sym, _∙_}
 use mathlib.Core.List.{List, _++_, List·Memᴰ}
 use lib.ListN.{length, getD, replicate, length-append, length-replicate}
+use borrow.Author.Tests.{le-leb, lt-leb}
 use lib.Seq.{sets, getD-append-add}
 use Rattle.page.specs.Bytes.{numberAt, bytesOf, numbersAt, bytesOfAll}
 use Rattle.page.proofs.SetsLaws.{sets-append, sets-whole}
 use Rattle.page.proofs.BytesLaws.{numberAt-same, numberAt-append-left, numberAt-append-right, numbersAt-same, numberAt-bytesOf, numbersAt-bytesOfAll, length-bytesOf, length-numbersAt, length-bytesOfAll}
-use Rattle.free_list.specs.ListPages.{prevOf, countOf, entriesOf, encodeListPage}
+use Rattle.free_list.specs.ListPages.{prevOf, countOf, entriesOf, encodeListPage, prevWithin, countWithin, entryWithin}
 
 pub length-entriesOf : (b : List ℕ) → length (entriesOf b) ≡ countOf b
 unfolding entriesOf
@@ -86,3 +88,29 @@ module _ (s prev : ℕ) (es : List ℕ) where
             let e : 6 + k ≡ length (bytesOf 4 prev) + (length (bytesOf 2 (length es)) + k) = omega (arith, length-bytesOf 4 prev, length-bytesOf 2 (length es)) in
             rw (e, zero-add k)
             (getD-append-add (bytesOf 4 prev) rest (length (bytesOf 2 (length es)) + k) 0 ∙ getD-append-add (bytesOf 2 (length es)) (bytesOfAll 4 es ++ padding) k 0)
+
+-- bytes that reach as far as what is read
+pub prev-within : (b : List ℕ) → 6 ≤ length b → prevWithin b ≡ prevOf b
+unfolding prevWithin
+prev-within b h = rw (le-leb 6 (length b) h)
+
+pub count-within : (b : List ℕ) → 6 ≤ length b → countWithin b ≡ countOf b
+unfolding countWithin
+count-within b h = rw (le-leb 6 (length b) h)
+
+pub entry-within : (b : List ℕ) (i : ℕ) → 10 + 4 * i ≤ length b → entryWithin b i ≡ numberAt 4 b (6 + 4 * i)
+unfolding entryWithin
+entry-within b i h = rw (le-leb (10 + 4 * i) (length b) h)
+
+-- and bytes that do not
+pub prev-past : (b : List ℕ) → length b < 6 → prevWithin b ≡ 0
+unfolding prevWithin
+prev-past b h = rw (lt-leb 6 (length b) h)
+
+pub count-past : (b : List ℕ) → length b < 6 → countWithin b ≡ 0
+unfolding countWithin
+count-past b h = rw (lt-leb 6 (length b) h)
+
+pub entry-past : (b : List ℕ) (i : ℕ) → length b < 10 + 4 * i → entryWithin b i ≡ 0
+unfolding entryWithin
+entry-past b i h = rw (lt-leb (10 + 4 * i) (length b) h)

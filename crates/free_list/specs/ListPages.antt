@@ -1,6 +1,8 @@
 -- List pages: bytes 0-3 the previous list page, 4-5 the count, then the entries, four bytes each.
 use Prim.Native.Nat.{ℕ, _+_, _*_, _-_}
+use mathlib.Core.Bool.{cond}
 use mathlib.Core.List.{List, _++_}
+use lib.Dec.{leb}
 use lib.ListN.{length, replicate}
 use Rattle.page.specs.Bytes.{numberAt, bytesOf, numbersAt, bytesOfAll}
 
@@ -20,3 +22,17 @@ entriesOf b = numbersAt 4 b 6 (countOf b)
 unfoldable pub encodeListPage : ℕ → ℕ → List ℕ → List ℕ
 encodeListPage s prev entries =
     bytesOf 4 prev ++ (bytesOf 2 (length entries) ++ (bytesOfAll 4 entries ++ replicate (s - (6 + 4 * length entries)) 0))
+
+-- ---- what bytes of any length say
+
+-- the number of the previous list page, and nil where the bytes end within the header
+unfoldable pub prevWithin : List ℕ → ℕ
+prevWithin b = cond (leb 6 (length b)) (prevOf b) 0
+
+-- the count of entries, and none where the bytes end within the header
+unfoldable pub countWithin : List ℕ → ℕ
+countWithin b = cond (leb 6 (length b)) (countOf b) 0
+
+-- entry i, and nil where the bytes end before it does
+unfoldable pub entryWithin : List ℕ → ℕ → ℕ
+entryWithin b i = cond (leb (10 + 4 * i) (length b)) (numberAt 4 b (6 + 4 * i)) 0

@@ -6,8 +6,7 @@ ghost use lib.Seq.{sets};
 ghost use Rattle.page.specs.PageSize.{PageSize, pageSize};
 ghost use Rattle.free_list.specs.Reading.{ReadEffect, readInto, readOutcome};
 ghost use Rattle.free_list.specs.Steps.{readSize, chainFrom, Readable};
-use crate::list_page::item_count;
-use crate::list_page::prev_pn;
+use crate::page_ref::header;
 pub use crate::walk::ListCounts;
 use crate::walk::Walk;
 use crate::walk::Walked;
@@ -114,11 +113,12 @@ fn fill(
     let mut at = list.entries;
     while 0 < left {
         let b = page_at(store, size, page);
-        let n = item_count(b) as usize;
+        let h = header(b);
+        let n = h.count as usize;
         at -= n;
         read_numbers(b, 6, n, entries, at);
         left -= 1;
         pages[left] = page;
-        page = prev_pn(b).0;
+        page = h.prev.0;
     }
 }

@@ -10,9 +10,8 @@ ghost use Rattle.page.specs.Pages.{pageCount};
 ghost use Rattle.free_list.specs.Reading.{countFits, entriesFit};
 ghost use Rattle.free_list.specs.Steps.{sizeFrom, visitedSize, walkedSize, Sound, Marked, Advanced, Onward};
 use crate::list_page::item;
-use crate::list_page::item_count;
 use crate::list_page::max_pns_per_page;
-use crate::list_page::prev_pn;
+use crate::page_ref::header;
 use page::store::page_at;
 use refusal::Refusal;
 
@@ -90,7 +89,8 @@ fn visit(store: &[u8], size: usize, count: u32, w: Walk) -> Visited
         return Visited::Unfit(Refusal::ListPage(page));
     }
     let b = page_at(store, size, page);
-    let n = item_count(b) as usize;
+    let h = header(b);
+    let n = h.count as usize;
     if !count_fits(max_pns_per_page(size), w.pages, w.entries, n) {
         return Visited::Unfit(Refusal::Count(page));
     }
@@ -98,7 +98,7 @@ fn visit(store: &[u8], size: usize, count: u32, w: Walk) -> Visited
         return Visited::Unfit(Refusal::Entry(page));
     }
     Visited::Next(Walk {
-        page: prev_pn(b).0,
+        page: h.prev.0,
         allowed: w.allowed - 1,
         pages: w.pages + 1,
         entries: w.entries + n,

@@ -3,7 +3,6 @@
 use Prim.Native.Nat.{ℕ, _+_, _*_, _-_, _<_, _≤_}
 use mathlib.Core.Path.{_≡_, refl, ap, _∙_}
 use mathlib.Core.List.{List}
-use borrow.Author.Needs.{needs}
 use native.Mathlib.Omega.{arith}
 use lib.ListN.{length, set}
 use lib.Seq.{sets}
@@ -12,17 +11,18 @@ use Rattle.page.specs.PageSize.{PageSize, capacity}
 use Rattle.page.specs.Pages.{pageAt}
 use Rattle.page.proofs.PageSizeLaws.{page-least}
 use Rattle.page.proofs.PagesLaws.{page-within, length-pageAt}
-use Rattle.free_list.specs.ListPages.{prevOf, countOf, entriesOf}
+use Rattle.free_list.specs.ListPages.{countOf, entriesOf, prevWithin, countWithin}
+use Rattle.free_list.proofs.ListPagesLaws.{prev-within, count-within}
 use Rattle.free_list.proofs.FillingLaws.{Filling, Filled, filled, filling-done}
+use borrow.Author.Needs.{needs}
 use Rattle.free_list.proofs.read.fill.Statement.{statement}
 use Rattle.free_list.proofs.read.fill.Tie as tie
 
 -- the page that is written next: its bytes are b, and n its count
 record Page (s : ℕ) (store pages₀ entries₀ : List ℕ) (head left₀ : ℕ) (pages entries : List ℕ) (page left at n : ℕ) (b : List ℕ) : Type 0 where
-  header : 6 ≤ length b
   room : 6 + 4 * n ≤ length b
   enough : n ≤ at
-  next : (q : ℕ) (written : List ℕ) → written ≡ sets entries (at - n) (numbersAt 4 b 6 n) → q ≡ prevOf b
+  next : (q : ℕ) (written : List ℕ) → written ≡ sets entries (at - n) (numbersAt 4 b 6 n) → q ≡ prevWithin b
       → Filling s store pages₀ entries₀ head left₀ (set pages (left - 1) page) written q (left - 1) (at - n)
 
 module _ {s : ℕ} {store pages₀ entries₀ : List ℕ} {head left₀ : ℕ} {pages entries : List ℕ} {page left at : ℕ} {b : List ℕ}
@@ -33,16 +33,17 @@ module _ {s : ℕ} {store pages₀ entries₀ : List ℕ} {head left₀ : ℕ} {
   long : length b ≡ s
   long = ap length bytes ∙ length-pageAt s store page (page-within s store page (omega (arith, page-least size)) (this .inside))
 
-  the-page : (n : ℕ) → n ≡ countOf b → Page s store pages₀ entries₀ head left₀ pages entries page left at n b
+  the-page : (n : ℕ) → n ≡ countWithin b → Page s store pages₀ entries₀ head left₀ pages entries page left at n b
   unfolding capacity entriesOf
-  the-page n count =
-      let same : n ≡ countOf (pageAt s store page) = count ∙ ap countOf bytes in
+  the-page n header =
       let least = page-least size in
+      let whole : 6 ≤ length b = omega (arith, long) in
+      let count : n ≡ countOf b = header ∙ count-within b whole in
+      let same : n ≡ countOf (pageAt s store page) = count ∙ ap countOf bytes in
       record {
-        header = omega (arith, long);
         room = omega (arith, long, this .few);
         enough = omega (arith, this .enough);
-        next = λ q written e before. rw (e, before, count, bytes) (this .next);
+        next = λ q written e before. rw (e, before, prev-within b whole, count, bytes) (this .next);
       }
 
 abbrev Inv-loop : tie.InvT-loop
@@ -59,39 +60,34 @@ loop-holds c =
 page-at-requires : tie.Need-page-at-requires Inv-loop μ-loop
 page-at-requires c κs = (c .before .before .before .before .before .pre .0, filled _ _ _ _ _ _ _ _ _ _ _ (c .loop-test .taken) (c .before .loop .inv) .inside)
 
-item-count-requires : tie.Need-item-count-requires Inv-loop μ-loop
-item-count-requires c κs = the-page (c .before .before .before .before .before .before .pre .0) (c .before .loop-test .taken) (c .before .before .loop .inv) (c .page-at .ensures) _ refl .header
+header-requires : tie.Need-header-requires Inv-loop μ-loop
+header-requires c κs = search needs
 
 cast-n : tie.Need-cast-n Inv-loop μ-loop
 cast-n c = search needs
 
 sub-at : tie.Need-sub-at Inv-loop μ-loop
-sub-at c = the-page (c .before .before .before .before .before .before .before .pre .0) (c .before .before .loop-test .taken) (c .before .before .before .loop .inv) (c .before .page-at .ensures) _ (c .item-count .ensures) .enough
+sub-at c = the-page (c .before .before .before .before .before .before .before .before .pre .0) (c .before .before .before .loop-test .taken) (c .before .before .before .before .loop .inv) (c .before .before .page-at .ensures) _ (c .before .header .ensures .1) .enough
 
 read-numbers-requires : tie.Need-read-numbers-requires Inv-loop μ-loop
 read-numbers-requires c κs =
-    let p = the-page (c .before .before .before .before .before .before .before .before .pre .0) (c .before .before .before .loop-test .taken) (c .before .before .before .before .loop .inv) (c .before .before .page-at .ensures) _ (c .before .item-count .ensures) in
-    (p .room, omega (arith, p .enough, c .before .before .before .before .loop .inv .entries-fit))
+    let p = the-page (c .before .before .before .before .before .before .before .before .before .pre .0) (c .before .before .before .before .loop-test .taken) (c .before .before .before .before .before .loop .inv) (c .before .before .before .page-at .ensures) _ (c .before .before .header .ensures .1) in
+    (p .room, omega (arith, p .enough, c .before .before .before .before .before .loop .inv .entries-fit))
 
 sub-left : tie.Need-sub-left Inv-loop μ-loop
 sub-left c = omega arith
 
 mul-pages : tie.Need-mul-pages Inv-loop μ-loop
-mul-pages c = omega (arith, c .before .before .before .before .before .before .before .loop .inv .pages-fit)
+mul-pages c = omega (arith, c .before .before .before .before .before .before .before .before .loop .inv .pages-fit)
 
 slice-write-pages : tie.Need-slice-write-pages Inv-loop μ-loop
-slice-write-pages c = omega (arith, c .before .before .before .before .before .before .before .loop .inv .pages-fit, c .before .before .before .before .before .before .loop-test .taken)
-
-prev-pn-requires : tie.Need-prev-pn-requires Inv-loop μ-loop
-prev-pn-requires c κs = the-page (c .before .before .before .before .before .before .before .before .before .before .before .pre .0) (c .before .before .before .before .before .before .loop-test .taken) (c .before .before .before .before .before .before .before .loop .inv) (c .before .before .before .before .before .page-at .ensures) _ (c .before .before .before .before .item-count .ensures) .header
+slice-write-pages c = omega (arith, c .before .before .before .before .before .before .before .before .loop .inv .pages-fit, c .before .before .before .before .before .before .before .loop-test .taken)
 
 loop-less : tie.Need-loop-less Inv-loop μ-loop
 loop-less c = omega arith
 
 loop-again : tie.Need-loop-again Inv-loop μ-loop
-loop-again c =
-    the-page (c .before .before .before .before .before .before .before .before .before .before .before .before .pre .0) (c .before .before .before .before .before .before .before .loop-test .taken) (c .before .before .before .before .before .before .before .before .loop .inv) (c .before .before .before .before .before .before .page-at .ensures) _ (c .before .before .before .before .before .item-count .ensures)
-    .next _ _ (c .before .before .before .read-numbers .ensures) (c .prev-pn .ensures)
+loop-again c = the-page (c .before .before .before .before .before .before .before .before .before .before .before .before .pre .0) (c .before .before .before .before .before .before .before .loop-test .taken) (c .before .before .before .before .before .before .before .before .loop .inv) (c .before .before .before .before .before .before .page-at .ensures) _ (c .before .before .before .before .before .header .ensures .1) .next _ _ (c .before .before .read-numbers .ensures) (c .before .before .before .before .before .header .ensures .0)
 
 same-length : tie.Need-same-length Inv-loop μ-loop
 same-length c = c .before .loop .inv .pages-long
@@ -110,14 +106,13 @@ fill-spec =
     μ-loop
     loop-holds
     page-at-requires
-    item-count-requires
+    header-requires
     cast-n
     sub-at
     read-numbers-requires
     sub-left
     mul-pages
     slice-write-pages
-    prev-pn-requires
     loop-less
     loop-again
     same-length
