@@ -5,14 +5,11 @@ use mathlib.Core.List.{List, [], _∷_, _++_, append-assoc, append-nil}
 use native.Mathlib.Numerals.{add-one}
 use native.Mathlib.Omega.{arith}
 use lib.ListN.{length, getD, take, drop, length-append}
-use lib.Seq.{sets, length-sets, take-add, take-suc}
-use Rattle.page.specs.PageSize.{PageSize}
+use lib.Seq.{sets, length-sets, take-add, take-suc, take-length}
 use Rattle.page.specs.Pages.{pageAt}
-use Rattle.page.proofs.PageSizeLaws.{page-least}
 use Rattle.page.proofs.SetsLaws.{sets-append}
-use Rattle.overflow.specs.ValuePages.{numberCount, byteCount, valueBytes}
-use Rattle.overflow.specs.Steps.{bytesOfPages, PagesFit}
-use Rattle.overflow.proofs.WalkLaws.{page-long, length-valueBytes}
+use Rattle.overflow.specs.ValuePages.{valueBytes}
+use Rattle.overflow.specs.Steps.{bytesOfPages}
 
 module _ (s : ℕ) (store : List ℕ) where
   pub bytesOfPages-append : (ps qs : List ℕ) → bytesOfPages s store (ps ++ qs) ≡ bytesOfPages s store ps ++ bytesOfPages s store qs
@@ -42,41 +39,29 @@ pub copying-start : (s : ℕ) (store numbers : List ℕ) (total : ℕ) (value : 
 unfolding bytesOfPages
 copying-start s store numbers total value = record { few = omega arith; at-is = refl; long = refl; value-is = refl }
 
--- what is to be copied next, and what stands in the buffer then
-pub record Copied (s : ℕ) (store numbers : List ℕ) (total : ℕ) (value₀ value : List ℕ) (i at n m : ℕ) (b : List ℕ) : Type 0 where
-  pub header : 4 ≤ length b
-  pub source : 4 + 4 * n + m ≤ length b
-  pub room : at + m ≤ length value
-  pub next : (written : List ℕ) → written ≡ sets value at (take m (drop (4 + 4 * n) b)) → Copying s store numbers total value₀ written (i + 1) (at + m)
+-- what is copied next, the bytes b, and what stands in the buffer then
+pub record Copied (s : ℕ) (store numbers : List ℕ) (total : ℕ) (value₀ value : List ℕ) (i at : ℕ) (b : List ℕ) : Type 0 where
+  pub room : at + length b ≤ length value
+  pub next : (written : List ℕ) → written ≡ sets value at (take (length b) (drop 0 b)) → Copying s store numbers total value₀ written (i + 1) (at + length b)
 
-module _ {s : ℕ} {store numbers : List ℕ} {total : ℕ} {value₀ value : List ℕ} {i at : ℕ} (size : PageSize s) (fit : PagesFit s store total numbers)
+module _ {s : ℕ} {store numbers : List ℕ} {total : ℕ} {value₀ value : List ℕ} {i at : ℕ}
     (enough : total ≤ length numbers) (fits : length (bytesOfPages s store (take total numbers)) ≤ length value₀)
     (k : Copying s store numbers total value₀ value i at) (h : i < total) where
-  pub copied : {b : List ℕ} (n m : ℕ) → b ≡ pageAt s store (getD numbers i 0) → n ≡ numberCount b → m ≡ byteCount b → Copied s store numbers total value₀ value i at n m b
-  unfolding valueBytes
-  copied {b} n m page numbered counted =
-      let p = getD numbers i 0 in
-      let f = fit i h in
-      let long : length b ≡ s = page-long s store {p = p} size page (f .inside) in
-      let least = page-least size in
-      let n-is : n ≡ numberCount (pageAt s store p) = numbered ∙ ap numberCount page in
-      let m-is : m ≡ byteCount (pageAt s store p) = counted ∙ ap byteCount page in
-      let bytes : take m (drop (4 + 4 * n) b) ≡ valueBytes (pageAt s store p) = rw (n-is, m-is, page) in
-      let count : length (valueBytes (pageAt s store p)) ≡ m = length-valueBytes s store p size f ∙ sym m-is in
+  pub copied : {page b : List ℕ} → page ≡ pageAt s store (getD numbers i 0) → b ≡ valueBytes page → Copied s store numbers total value₀ value i at b
+  copied {page} {b} found held =
+      let bytes : b ≡ valueBytes (pageAt s store (getD numbers i 0)) = held ∙ ap valueBytes found in
       let before = bytesOfPages s store (take i numbers) in
-      let more : bytesOfPages s store (take (i + 1) numbers) ≡ before ++ valueBytes (pageAt s store p) = rw add-one (bytesOfPages-more s store numbers i (omega arith)) in
-      let at-next : length (bytesOfPages s store (take (i + 1) numbers)) ≡ at + m = rw (more, length-append before (valueBytes (pageAt s store p)), k .at-is, count) in
+      let more : bytesOfPages s store (take (i + 1) numbers) ≡ before ++ b = rw (add-one, bytes) (bytesOfPages-more s store numbers i (omega arith)) in
+      let at-next : length (bytesOfPages s store (take (i + 1) numbers)) ≡ at + length b = rw (more, length-append before b, k .at-is) in
       let sum : i + 1 + (total - (i + 1)) ≡ total = omega arith in
       let all : length (bytesOfPages s store (take (i + 1) numbers)) ≤ length (bytesOfPages s store (take total numbers)) = rw sum at (bytesOfPages-few s store numbers (i + 1) (total - (i + 1))) in
       record {
-        header = omega arith;
-        source = omega (arith, f .fits);
         room = omega (arith, k .long);
-        next = λ written e. record {
+        next = λ written e. let set : written ≡ sets value at b = rw (take-length b) at e in record {
           few = omega arith;
           at-is = at-next;
-          long = ap length e ∙ length-sets value at (take m (drop (4 + 4 * n) b)) ∙ k .long;
-          value-is = rw (more, sets-append value₀ 0 before (valueBytes (pageAt s store p)), ← k .value-is, zero-plus before, k .at-is, ← bytes) e;
+          long = ap length set ∙ length-sets value at b ∙ k .long;
+          value-is = rw (more, sets-append value₀ 0 before b, ← k .value-is, zero-plus before, k .at-is) set;
         };
       }
     where

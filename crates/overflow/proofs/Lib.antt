@@ -3,6 +3,8 @@ pub mod TotalsLaws
 pub mod LayoutLaws
 pub mod StoredLaws
 pub mod ValuePagesLaws
+pub mod WithinLaws
+pub mod HeldPages
 pub mod ChunkLaws
 pub mod CellsLaws
 pub mod WalkLaws

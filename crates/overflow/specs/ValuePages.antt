@@ -1,6 +1,6 @@
 -- Value pages: two bytes count of numbers, two bytes count of value bytes, numbers, bytes.
 use Prim.Native.Nat.{ℕ, _+_, _*_, _-_}
-use mathlib.Core.Bool.{_&&_}
+use mathlib.Core.Bool.{_&&_, cond}
 use mathlib.Core.List.{List, [], _++_}
 use lib.Dec.{leb, ltb, eqb}
 use lib.ListN.{length, take, drop, replicate}
@@ -25,6 +25,22 @@ valueNumbers b = numbersAt 4 b 4 (numberCount b)
 -- the value bytes
 unfoldable pub valueBytes : List ℕ → List ℕ
 valueBytes b = take (byteCount b) (drop (4 + 4 * numberCount b) b)
+
+-- ---- what bytes of any length say; the value bytes are as far as they go
+
+-- the count of numbers, and none where the bytes end within the header
+unfoldable pub numbersWithin : List ℕ → ℕ
+numbersWithin b = cond (leb 4 (length b)) (numberCount b) 0
+
+-- the count of value bytes, likewise
+unfoldable pub bytesWithin : List ℕ → ℕ
+bytesWithin b = cond (leb 4 (length b)) (byteCount b) 0
+
+-- number i, and nil where the bytes end before it does
+unfoldable pub numberWithin : List ℕ → ℕ → ℕ
+numberWithin b i = cond (leb (8 + 4 * i) (length b)) (numberAt 4 b (4 + 4 * i)) 0
+
+-- ---- writing a page
 
 -- a value page as s bytes; those past the value bytes are zero
 unfoldable pub encodeValuePage : ℕ → List ℕ → List ℕ → List ℕ

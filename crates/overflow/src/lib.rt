@@ -3,6 +3,7 @@
 pub mod cell;
 pub mod chunk;
 pub mod delete;
+pub mod page_ref;
 pub mod read;
 pub mod stored;
 pub mod total;

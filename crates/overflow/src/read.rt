@@ -8,9 +8,8 @@ ghost use Rattle.overflow.specs.Reading.{ReadEffect, readInto, readOutco
 ghost use Rattle.overflow.specs.Steps.{bytesOfPages, PagesFit};
 use crate::cell::Decoded;
 use crate::cell::cell_counts;
+use crate::page_ref::bytes;
 use crate::total::total_needed_pages;
-use crate::value_page::byte_count;
-use crate::value_page::number_count;
 use crate::walk::Walked;
 use crate::walk::walk;
 use page::PAGE_SIZE;
@@ -90,11 +89,9 @@ fn copy_value(size: usize, store: &[u8], numbers: &[u32], total: usize, value: &
     let mut i = 0;
     let mut at = 0;
     while i < total {
-        let b = page_at(store, size, numbers[i]);
-        let n = number_count(b) as usize;
-        let m = byte_count(b) as usize;
-        copy(b, 4 + 4 * n, m, value, at);
-        at += m;
+        let b = bytes(page_at(store, size, numbers[i]));
+        copy(b, 0, b.len(), value, at);
+        at += b.len();
         i += 1;
     }
 }

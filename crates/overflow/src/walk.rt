@@ -10,8 +10,7 @@ ghost use Rattle.page.specs.PageSize.{PageSize};
 ghost use Rattle.page.specs.Pages.{pageCount};
 ghost use Rattle.overflow.specs.Reading.{foundBy};
 ghost use Rattle.overflow.specs.Steps.{pageParts, parsedOutcome, Walkable, walkFrom, walkCounts, walkedOutcome};
-use crate::value_page::byte_count;
-use crate::value_page::number_count;
+use crate::page_ref::header;
 use page::little_endian::read_numbers;
 use page::store::page_at;
 use page::store::page_count;
@@ -43,9 +42,9 @@ fn parse_page(store: &[u8], size: usize, count: u32, i: usize, page: u32) -> Par
     if count <= page {
         return Parsed::Unfit(Refusal::Missing(i));
     }
-    let b = page_at(store, size, page);
-    let numbers = number_count(b) as usize;
-    let bytes = byte_count(b) as usize;
+    let h = header(page_at(store, size, page));
+    let numbers = h.numbers as usize;
+    let bytes = h.bytes as usize;
     if size - 4 < 4 * numbers + bytes {
         return Parsed::Unfit(Refusal::ValuePage(i));
     }

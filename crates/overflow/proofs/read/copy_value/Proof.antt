@@ -1,7 +1,6 @@
 -- `copy_value` meets its contract. The loop's invariant is `Copying`: the bytes of the first i pages stand in the buffer.
 -- Assumes nothing.
 use Prim.Native.Nat.{_-_}
-use mathlib.Core.Path.{refl}
 use native.Mathlib.Omega.{arith}
 use Rattle.overflow.proofs.CopyingLaws.{Copying, copying-start, copied, copying-done}
 use borrow.Author.Needs.{needs}
@@ -26,38 +25,23 @@ shared-slice-read-page-at c = omega (arith, c .before .before .before .before .b
 page-at-requires : tie.Need-page-at-requires Inv-loop μ-loop
 page-at-requires c κs = (c .before .before .before .before .before .before .pre .0, c .before .before .before .before .before .before .pre .1 _ (c .before .loop-test .taken) .inside)
 
-number-count-requires : tie.Need-number-count-requires Inv-loop μ-loop
-number-count-requires c κs = copied (c .before .before .before .before .before .before .before .pre .0) (c .before .before .before .before .before .before .before .pre .1) (c .before .before .before .before .before .before .before .pre .2) (c .before .before .before .before .before .before .before .pre .3) (c .before .before .before .loop .inv) (c .before .before .loop-test .taken) _ _ (c .page-at .ensures) refl refl .header
-
-cast-n : tie.Need-cast-n Inv-loop μ-loop
-cast-n c = search needs
-
-byte-count-requires : tie.Need-byte-count-requires Inv-loop μ-loop
-byte-count-requires c κs = copied (c .before .before .before .before .before .before .before .before .pre .0) (c .before .before .before .before .before .before .before .before .pre .1) (c .before .before .before .before .before .before .before .before .pre .2) (c .before .before .before .before .before .before .before .before .pre .3) (c .before .before .before .before .loop .inv) (c .before .before .before .loop-test .taken) _ _ (c .before .page-at .ensures) refl refl .header
-
-cast-m : tie.Need-cast-m Inv-loop μ-loop
-cast-m c = search needs
-
-mul-copy : tie.Need-mul-copy Inv-loop μ-loop
-mul-copy c = omega arith
-
-add-copy : tie.Need-add-copy Inv-loop μ-loop
-add-copy c = omega arith
+bytes-requires : tie.Need-bytes-requires Inv-loop μ-loop
+bytes-requires c κs = search needs
 
 copy-requires : tie.Need-copy-requires Inv-loop μ-loop
-copy-requires c κs = let k = copied (c .before .before .before .before .before .before .before .before .before .before .pre .0) (c .before .before .before .before .before .before .before .before .before .before .pre .1) (c .before .before .before .before .before .before .before .before .before .before .pre .2) (c .before .before .before .before .before .before .before .before .before .before .pre .3) (c .before .before .before .before .before .before .loop .inv) (c .before .before .before .before .before .loop-test .taken) _ _ (c .before .before .before .page-at .ensures) (c .before .before .number-count .ensures) (c .before .byte-count .ensures) in (k .source, k .room)
+copy-requires c κs = let k = copied (c .before .before .before .before .before .before .before .before .before .pre .2) (c .before .before .before .before .before .before .before .before .before .pre .3) (c .before .before .before .before .before .loop .inv) (c .before .before .before .before .loop-test .taken) (c .before .before .page-at .ensures) (c .before .bytes .ensures) in (omega arith, k .room)
 
 add-at : tie.Need-add-at Inv-loop μ-loop
-add-at c = omega (arith, copied (c .before .before .before .before .before .before .before .before .before .before .before .before .before .pre .0) (c .before .before .before .before .before .before .before .before .before .before .before .before .before .pre .1) (c .before .before .before .before .before .before .before .before .before .before .before .before .before .pre .2) (c .before .before .before .before .before .before .before .before .before .before .before .before .before .pre .3) (c .before .before .before .before .before .before .before .before .before .loop .inv) (c .before .before .before .before .before .before .before .before .loop-test .taken) _ _ (c .before .before .before .before .before .before .page-at .ensures) (c .before .before .before .before .before .number-count .ensures) (c .before .before .before .before .byte-count .ensures) .room, c .before .before .before .before .before .before .before .before .before .before .before .before .before .good)
+add-at c = omega (arith, copied (c .before .before .before .before .before .before .before .before .before .before .before .before .pre .2) (c .before .before .before .before .before .before .before .before .before .before .before .before .pre .3) (c .before .before .before .before .before .before .before .before .loop .inv) (c .before .before .before .before .before .before .before .loop-test .taken) (c .before .before .before .before .before .page-at .ensures) (c .before .before .before .before .bytes .ensures) .room, c .before .before .before .before .before .before .before .before .before .before .before .before .good)
 
 add-i : tie.Need-add-i Inv-loop μ-loop
-add-i c = omega (arith, c .before .before .before .before .before .before .before .before .before .before .before .before .before .pre .2)
+add-i c = omega (arith, c .before .before .before .before .before .before .before .before .before .before .before .before .pre .2)
 
 loop-less : tie.Need-loop-less Inv-loop μ-loop
 loop-less c = omega arith
 
 loop-again : tie.Need-loop-again Inv-loop μ-loop
-loop-again c = copied (c .before .before .before .before .before .before .before .before .before .before .before .before .before .pre .0) (c .before .before .before .before .before .before .before .before .before .before .before .before .before .pre .1) (c .before .before .before .before .before .before .before .before .before .before .before .before .before .pre .2) (c .before .before .before .before .before .before .before .before .before .before .before .before .before .pre .3) (c .before .before .before .before .before .before .before .before .before .loop .inv) (c .before .before .before .before .before .before .before .before .loop-test .taken) _ _ (c .before .before .before .before .before .before .page-at .ensures) (c .before .before .before .before .before .number-count .ensures) (c .before .before .before .before .byte-count .ensures) .next _ (c .before .before .copy .ensures)
+loop-again c = copied (c .before .before .before .before .before .before .before .before .before .before .before .before .pre .2) (c .before .before .before .before .before .before .before .before .before .before .before .before .pre .3) (c .before .before .before .before .before .before .before .before .loop .inv) (c .before .before .before .before .before .before .before .loop-test .taken) (c .before .before .before .before .before .page-at .ensures) (c .before .before .before .before .bytes .ensures) .next _ (c .before .before .copy .ensures)
 
 same-length : tie.Need-same-length Inv-loop μ-loop
 same-length c = c .before .loop .inv .long
@@ -75,12 +59,7 @@ copy-value-spec =
     mul-page-at
     shared-slice-read-page-at
     page-at-requires
-    number-count-requires
-    cast-n
-    byte-count-requires
-    cast-m
-    mul-copy
-    add-copy
+    bytes-requires
     copy-requires
     add-at
     add-i
