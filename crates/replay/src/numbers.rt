@@ -1,0 +1,153 @@
+// The numbers of a line: taken from it, and compared with it.
+//
+// A place is counted from the start of the line. What does not stand in the line as it has to leads to `NOWHERE`, from where no way leads
+// back: so the end of a line is reached only if all of it is right.
+ghost use Rattle.io.specs.Counts.{Counts};
+
+// The place of what is wrong.
+pub const NOWHERE: usize = 18446744073709551615;
+
+// The number at a place, 0 past the end.
+pub fn number(line: &[u64], at: usize) -> u64 {
+    if line.len() <= at {
+        return 0;
+    }
+    line[at]
+}
+
+// The number at a place where it has 32 bits, 0 otherwise.
+pub fn word(line: &[u64], at: usize) -> u32 {
+    let n = number(line, at);
+    if 4294967295 < n {
+        return 0;
+    }
+    n as u32
+}
+
+// The number at a place where it has 8 bits, 0 otherwise.
+fn byte(line: &[u64], at: usize) -> u8 {
+    let n = number(line, at);
+    if 255 < n {
+        return 0;
+    }
+    n as u8
+}
+
+// The length at a place, 0 where the table is shorter.
+pub fn count(line: &[u64], at: usize, table: &[u32]) -> usize
+    ensures { λ r. ⌜ Counts r (now (table .entry)) ⌝ }
+{
+    let n = number(line, at) as usize;
+    if table.len() < n {
+        return 0;
+    }
+    n
+}
+
+// The length at a place, 0 where there are less bytes.
+pub fn count_bytes(line: &[u64], at: usize, bytes: &[u8]) -> usize
+    ensures { λ r. ⌜ Counts r (now (bytes .entry)) ⌝ }
+{
+    let n = number(line, at) as usize;
+    if bytes.len() < n {
+        return 0;
+    }
+    n
+}
+
+// The place so many numbers further on.
+pub fn plus(at: usize, n: usize) -> usize {
+    if NOWHERE - n < at {
+        return NOWHERE;
+    }
+    at + n
+}
+
+// The place behind an array that is given as its length and its elements.
+pub fn behind(line: &[u64], at: usize) -> usize {
+    plus(plus(at, 1), number(line, at) as usize)
+}
+
+// The place behind this number.
+pub fn after_number(line: &[u64], at: usize, n: u64) -> usize {
+    if number(line, at) != n {
+        return NOWHERE;
+    }
+    plus(at, 1)
+}
+
+// The place behind a number of 32 bits.
+pub fn after_word(line: &[u64], at: usize) -> usize {
+    after_number(line, at, word(line, at) as u64)
+}
+
+// The place behind these eight numbers.
+pub fn after_out(line: &[u64], at: usize, out: &[u64; 8]) -> usize {
+    let mut i = 0;
+    while i < 8 {
+        if number(line, plus(at, i)) != out[i] {
+            return NOWHERE;
+        }
+        i += 1;
+    }
+    plus(at, 8)
+}
+
+// The place behind the elements of this table.
+pub fn after_words(line: &[u64], at: usize, table: &[u32]) -> usize {
+    let mut i = 0;
+    while i < table.len() {
+        if number(line, plus(at, i)) != wide(table[i]) {
+            return NOWHERE;
+        }
+        i += 1;
+    }
+    plus(at, table.len())
+}
+
+// The place behind these bytes.
+pub fn after_bytes(line: &[u64], at: usize, bytes: &[u8]) -> usize {
+    let mut i = 0;
+    while i < bytes.len() {
+        if number(line, plus(at, i)) != wide_byte(bytes[i]) {
+            return NOWHERE;
+        }
+        i += 1;
+    }
+    plus(at, bytes.len())
+}
+
+// The place behind this hash.
+pub fn after_hash(line: &[u64], at: usize, hash: &[u8; 32]) -> usize {
+    after_bytes(line, at, hash)
+}
+
+// Takes an array of as many elements as the table has. Gives the place behind it.
+pub fn take_words(line: &[u64], at: usize, table: &mut [u32]) -> usize {
+    let start = after_number(line, at, table.len() as u64);
+    let mut i = 0;
+    while i < table.len() {
+        table[i] = word(line, plus(start, i));
+        i += 1;
+    }
+    after_words(line, start, table)
+}
+
+// Takes an array of as many bytes. Gives the place behind it.
+pub fn take_bytes(line: &[u64], at: usize, bytes: &mut [u8]) -> usize {
+    let start = after_number(line, at, bytes.len() as u64);
+    let mut i = 0;
+    while i < bytes.len() {
+        bytes[i] = byte(line, plus(start, i));
+        i += 1;
+    }
+    after_bytes(line, start, bytes)
+}
+
+fn wide(n: u32) -> u64 {
+    n as u64
+}
+
+fn wide_byte(n: u8) -> u64 {
+    n as u64
+}
