@@ -7,7 +7,7 @@ export NOMT_SRC
 LIB := target/staticlib/libmopsienna.a
 ORACLE := cargo run --quiet --release --manifest-path oracle/Cargo.toml
 
-.PHONY: run test lib sized interface limits memcheck compare cuts bench times
+.PHONY: run test lib sized interface limits memcheck compare record cuts bench times
 
 # Builds the sizing program and runs it: on standard input, or on a sample where that is a terminal.
 run:
@@ -48,6 +48,10 @@ memcheck: interface limits
 # The library beside the Rust, at length.
 compare: lib sized
 	@$(ORACLE) -p compare -- $(ARGS)
+
+# The recorded answers that crates/replay compares with, the same for the same seed.
+record: lib sized
+	@$(ORACLE) -p compare -- --record crates/replay/stdin --count 20000 | tail -1
 
 # Saves cut on a simulated disk, in every way or in many.
 cuts: lib sized

@@ -2,6 +2,7 @@
 use crate::lists::replay_finish;
 use crate::lists::replay_hand_out;
 use crate::lists::replay_read_list;
+use crate::numbers::FILLER;
 use crate::numbers::after_number;
 use crate::numbers::after_out;
 use crate::numbers::after_word;
@@ -41,11 +42,20 @@ fn replay_grow(line: &[u64]) -> bool {
     let grown = grow(PageNumber(word(line, 1)));
     match grown {
         Grown::To(length) => {
-            let out = [length.0 as u64, 99, 99, 99, 99, 99, 99, 99];
+            let out = [
+                length.0 as u64,
+                FILLER,
+                FILLER,
+                FILLER,
+                FILLER,
+                FILLER,
+                FILLER,
+                FILLER,
+            ];
             after_out(line, after_number(line, behind_page, 0), &out) == line.len()
         }
         Grown::Refused(r) => {
-            let mut out = [99u64; 8];
+            let mut out = [FILLER; 8];
             let status = r.report(&mut out);
             after_out(line, after_number(line, behind_page, status as u64), &out) == line.len()
         }
@@ -61,16 +71,16 @@ fn replay_total(line: &[u64]) -> bool {
                 t.total as u64,
                 t.cell as u64,
                 t.spare as u64,
-                99,
-                99,
-                99,
-                99,
-                99,
+                FILLER,
+                FILLER,
+                FILLER,
+                FILLER,
+                FILLER,
             ];
             after_out(line, after_number(line, 2, 0), &out) == line.len()
         }
         Totalled::Refused(r) => {
-            let mut out = [99u64; 8];
+            let mut out = [FILLER; 8];
             let status = r.report(&mut out);
             after_out(line, after_number(line, 2, status as u64), &out) == line.len()
         }

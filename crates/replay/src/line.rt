@@ -63,11 +63,11 @@ impl Reading {
         if 9 < digit {
             return Reading::malformed();
         }
-        if 1844674407370955160 < self.value {
+        if 1844674407370955161 < self.value {
             return Reading::malformed();
         }
         let tens = 10 * self.value;
-        if 18446744073709551606 < tens {
+        if u64::MAX - tens < digit {
             return Reading::malformed();
         }
         Reading {

@@ -1,4 +1,7 @@
 // Reading a list, handing out and finishing, at the page size that comes first in each line.
+use crate::numbers::BYTE_FILLER;
+use crate::numbers::FILLER;
+use crate::numbers::WORD_FILLER;
 use crate::numbers::after_bytes;
 use crate::numbers::after_number;
 use crate::numbers::after_out;
@@ -19,9 +22,9 @@ use sized::sized_read_list;
 // size head store[], the lengths of both tables | status out pages entries
 pub fn replay_read_list(line: &[u64]) -> bool {
     let lengths = behind(line, 3);
-    let mut store = [99u8; 4096];
-    let mut pages = [99u32; 1024];
-    let mut entries = [99u32; 1024];
+    let mut store = [BYTE_FILLER; 4096];
+    let mut pages = [WORD_FILLER; 1024];
+    let mut entries = [WORD_FILLER; 1024];
     let bytes = count_bytes(line, 3, &store);
     let page_count = count(line, lengths, &pages);
     let entry_count = count(line, plus(lengths, 1), &entries);
@@ -39,7 +42,7 @@ fn read_list_with(line: &[u64], store: &mut [u8], pages: &mut [u32], entries: &m
     let behind_store = take_bytes(line, after_word(line, 2), store);
     let behind_pages = after_number(line, behind_store, pages.len() as u64);
     let behind_entries = after_number(line, behind_pages, entries.len() as u64);
-    let mut out = [99u64; 8];
+    let mut out = [FILLER; 8];
     let status = sized_read_list(size, store, head, pages, entries, &mut out);
     let behind_status = after_number(line, behind_entries, status as u64);
     let behind_out = after_out(line, behind_status, &out);
@@ -50,8 +53,8 @@ fn read_list_with(line: &[u64], store: &mut [u8], pages: &mut [u32], entries: &m
 // size bump length P L, the count, pages[] entries[] | status out
 pub fn replay_hand_out(line: &[u64]) -> bool {
     let entries_at = behind(line, 7);
-    let mut pages = [99u32; 1024];
-    let mut entries = [99u32; 1024];
+    let mut pages = [WORD_FILLER; 1024];
+    let mut entries = [WORD_FILLER; 1024];
     let page_count = count(line, 7, &pages);
     let entry_count = count(line, entries_at, &entries);
     hand_out_with(line, &mut pages[..page_count], &mut entries[..entry_count])
@@ -67,7 +70,7 @@ fn hand_out_with(line: &[u64], pages: &mut [u32], entries: &mut [u32]) -> bool {
     let behind_length = after_word(line, after_word(line, 2));
     let behind_pages = take_words(line, plus(behind_length, 3), pages);
     let behind_entries = take_words(line, behind_pages, entries);
-    let mut out = [99u64; 8];
+    let mut out = [FILLER; 8];
     let status = sized_hand_out(
         size,
         bump,
@@ -89,11 +92,11 @@ pub fn replay_finish(line: &[u64]) -> bool {
     let entries_at = behind(line, 7);
     let freed_at = behind(line, entries_at);
     let lengths = behind(line, freed_at);
-    let mut pages = [99u32; 1024];
-    let mut entries = [99u32; 1024];
-    let mut freed = [99u32; 1024];
-    let mut buffer = [99u8; 4096];
-    let mut numbers = [99u32; 1024];
+    let mut pages = [WORD_FILLER; 1024];
+    let mut entries = [WORD_FILLER; 1024];
+    let mut freed = [WORD_FILLER; 1024];
+    let mut buffer = [BYTE_FILLER; 4096];
+    let mut numbers = [WORD_FILLER; 1024];
     let page_count = count(line, 7, &pages);
     let entry_count = count(line, entries_at, &entries);
     let freed_count = count(line, freed_at, &freed);
@@ -146,7 +149,7 @@ fn finish_from(
     let p = number(line, 4);
     let l = number(line, 5);
     let handed_out = number(line, 6);
-    let mut out = [99u64; 8];
+    let mut out = [FILLER; 8];
     let status = sized_finish(
         size,
         bump,

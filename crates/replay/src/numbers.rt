@@ -7,6 +7,13 @@ ghost use Rattle.io.specs.Counts.{Counts};
 // The place of what is wrong.
 pub const NOWHERE: usize = 18446744073709551615;
 
+// What stands before a call in `out`, in tables and in buffers, where nothing is taken from the line.
+pub const FILLER: u64 = 9;
+
+pub const WORD_FILLER: u32 = 9;
+
+pub const BYTE_FILLER: u8 = 9;
+
 // The number at a place, 0 past the end.
 pub fn number(line: &[u64], at: usize) -> u64 {
     if line.len() <= at {

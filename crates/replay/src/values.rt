@@ -1,4 +1,7 @@
 // Values: writing their pages and cells, reading and deleting them.
+use crate::numbers::BYTE_FILLER;
+use crate::numbers::FILLER;
+use crate::numbers::WORD_FILLER;
 use crate::numbers::after_bytes;
 use crate::numbers::after_hash;
 use crate::numbers::after_number;
@@ -21,9 +24,9 @@ use sized::sized_write_value_page;
 pub fn replay_write_page(line: &[u64]) -> bool {
     let numbers_at = behind(line, 3);
     let length = behind(line, numbers_at);
-    let mut value = [99u8; 4096];
-    let mut numbers = [99u32; 1024];
-    let mut page = [99u8; 4096];
+    let mut value = [BYTE_FILLER; 4096];
+    let mut numbers = [WORD_FILLER; 1024];
+    let mut page = [BYTE_FILLER; 4096];
     let bytes = count_bytes(line, 3, &value);
     let number_count = count(line, numbers_at, &numbers);
     let page_bytes = count_bytes(line, length, &page);
@@ -50,8 +53,8 @@ fn write_page_with(line: &[u64], value: &mut [u8], numbers: &mut [u32], page: &m
 pub fn replay_encode_cell(line: &[u64]) -> bool {
     let numbers_at = behind(line, 2);
     let length = behind(line, numbers_at);
-    let mut numbers = [99u32; 1024];
-    let mut cell = [99u8; 4096];
+    let mut numbers = [WORD_FILLER; 1024];
+    let mut cell = [BYTE_FILLER; 4096];
     let number_count = count(line, numbers_at, &numbers);
     let bytes = count_bytes(line, length, &cell);
     encode_cell_with(line, &mut numbers[..number_count], &mut cell[..bytes])
@@ -59,7 +62,7 @@ pub fn replay_encode_cell(line: &[u64]) -> bool {
 
 fn encode_cell_with(line: &[u64], numbers: &mut [u32], cell: &mut [u8]) -> bool {
     let size = number(line, 1);
-    let mut hash = [99u8; 32];
+    let mut hash = [BYTE_FILLER; 32];
     let behind_hash = take_bytes(line, 2, &mut hash);
     let behind_numbers = take_words(line, behind_hash, numbers);
     let behind_cell = after_number(line, behind_numbers, cell.len() as u64);
@@ -70,15 +73,15 @@ fn encode_cell_with(line: &[u64], numbers: &mut [u32], cell: &mut [u8]) -> bool 
 
 // cell[] | status out hash
 pub fn replay_decode_cell(line: &[u64]) -> bool {
-    let mut cell = [99u8; 4096];
+    let mut cell = [BYTE_FILLER; 4096];
     let bytes = count_bytes(line, 1, &cell);
     decode_cell_with(line, &mut cell[..bytes])
 }
 
 fn decode_cell_with(line: &[u64], cell: &mut [u8]) -> bool {
     let behind_cell = take_bytes(line, 1, cell);
-    let mut hash = [99u8; 32];
-    let mut out = [99u64; 8];
+    let mut hash = [BYTE_FILLER; 32];
+    let mut out = [FILLER; 8];
     let status = mopsienna_decode_cell(cell, &mut hash, &mut out);
     let behind_status = after_number(line, behind_cell, status as u64);
     let behind_out = after_out(line, behind_status, &out);
@@ -89,10 +92,10 @@ fn decode_cell_with(line: &[u64], cell: &mut [u8]) -> bool {
 pub fn replay_read_value(line: &[u64]) -> bool {
     let store_at = behind(line, 2);
     let lengths = behind(line, store_at);
-    let mut cell = [99u8; 4096];
-    let mut store = [99u8; 4096];
-    let mut numbers = [99u32; 1024];
-    let mut value = [99u8; 4096];
+    let mut cell = [BYTE_FILLER; 4096];
+    let mut store = [BYTE_FILLER; 4096];
+    let mut numbers = [WORD_FILLER; 1024];
+    let mut value = [BYTE_FILLER; 4096];
     let cell_bytes = count_bytes(line, 2, &cell);
     let store_bytes = count_bytes(line, store_at, &store);
     let number_count = count(line, lengths, &numbers);
@@ -118,7 +121,7 @@ fn read_value_with(
     let behind_store = take_bytes(line, behind_cell, store);
     let behind_numbers = after_number(line, behind_store, numbers.len() as u64);
     let behind_value = after_number(line, behind_numbers, value.len() as u64);
-    let mut out = [99u64; 8];
+    let mut out = [FILLER; 8];
     let status = sized_read_value(size, cell, store, numbers, value, &mut out);
     let behind_status = after_number(line, behind_value, status as u64);
     let behind_out = after_out(line, behind_status, &out);
@@ -130,9 +133,9 @@ fn read_value_with(
 pub fn replay_delete_value(line: &[u64]) -> bool {
     let store_at = behind(line, 2);
     let length = behind(line, store_at);
-    let mut cell = [99u8; 4096];
-    let mut store = [99u8; 4096];
-    let mut numbers = [99u32; 1024];
+    let mut cell = [BYTE_FILLER; 4096];
+    let mut store = [BYTE_FILLER; 4096];
+    let mut numbers = [WORD_FILLER; 1024];
     let cell_bytes = count_bytes(line, 2, &cell);
     let store_bytes = count_bytes(line, store_at, &store);
     let number_count = count(line, length, &numbers);
@@ -149,7 +152,7 @@ fn delete_value_with(line: &[u64], cell: &mut [u8], store: &mut [u8], numbers: &
     let behind_cell = take_bytes(line, 2, cell);
     let behind_store = take_bytes(line, behind_cell, store);
     let behind_numbers = after_number(line, behind_store, numbers.len() as u64);
-    let mut out = [99u64; 8];
+    let mut out = [FILLER; 8];
     let status = sized_delete_value(size, cell, store, numbers, &mut out);
     let behind_status = after_number(line, behind_numbers, status as u64);
     let behind_out = after_out(line, behind_status, &out);

@@ -4,7 +4,11 @@
 //! page past the end is handed out and where a save finishes with its bump past the end. Both are
 //! taken here, over an empty file, and the file's length is read.
 
-use crate::{report::Report, Plan};
+use crate::{
+    record::{Kind, Line},
+    report::Report,
+    Plan,
+};
 use common::{memory_file, Random};
 use mopsienna_sys::Reply;
 use nomt_4096::{
@@ -29,6 +33,14 @@ pub fn compare(plan: &Plan, library: impl Fn(u32) -> Reply) -> io::Result<Report
     let mut report = Report::new("grow");
     let mut check = |page: u32| -> io::Result<()> {
         for expected in rust.expected(page)? {
+            let rest = page % STEP;
+            let at_a_step = rest < 2 || rest + 2 > STEP;
+            plan.recorder.keep(
+                20,
+                format!("{} {at_a_step}", page > LAST_PAGE - 20_000),
+                8,
+                || Line::new(Kind::Grow).number(page).reply(&expected),
+            );
             report.check(page.into(), &expected, &library(page));
         }
         Ok(())

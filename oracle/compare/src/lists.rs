@@ -10,6 +10,7 @@ mod fixed;
 mod model;
 mod random;
 mod rust;
+mod small;
 
 use crate::{
     report::{difference, Report},
@@ -44,6 +45,9 @@ pub fn compare(
     fixed::each(&mut check)?;
     fixed::each_healthy(plan.short, &mut check)?;
     random::each(plan.seed, plan.count / RANDOM_SHARE, &mut check)?;
+    if plan.recorder.is_on() {
+        small::record_all(plan)?;
+    }
     Ok(comparison.finish())
 }
 
@@ -59,7 +63,7 @@ struct Comparison<L> {
 
 impl<L: Fn(&[u8], u32, &mut [u32], &mut [u32]) -> Reply> Comparison<L> {
     fn check(&mut self, case: &Case) {
-        let model = model::read(case.store.bytes(), case.head);
+        let model = model::read(PAGE_SIZE, case.store.bytes(), case.head);
         self.check_rust(case, &model);
         for (pages, entries) in table_lengths(case, &model) {
             self.check_library(case, &model, pages, entries);

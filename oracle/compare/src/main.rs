@@ -7,32 +7,37 @@ mod form;
 mod grow;
 mod lists;
 mod panics;
+mod record;
 mod report;
 mod saves;
 mod self_test;
 mod totals;
 mod values;
 
+use record::Recorder;
 use std::{env, io, process::ExitCode};
 
 const USAGE: &str = "\
-usage: compare [--short] [--seed N] [--count N] [--self-test]
+usage: compare [--short] [--seed N] [--count N] [--self-test] [--record FILE]
   --short      some seconds instead of some minutes
   --seed N     the seed of the random cases
   --count N    random cases for each operation; a twentieth of that for lists, a tenth for saves and
                a fiftieth for values
-  --self-test  see whether wrong replies are caught, over the short form";
+  --self-test  see whether wrong replies are caught, over the short form
+  --record FILE  write some of the calls with what is expected of them, over the short form";
 
 /// What is to be compared.
 pub struct Plan {
     pub short: bool,
     pub seed: u64,
     pub count: u64,
+    pub recorder: Recorder,
 }
 
 struct Options {
     plan: Plan,
     self_test: bool,
+    record: Option<String>,
 }
 
 fn main() -> ExitCode {
@@ -45,7 +50,15 @@ fn main() -> ExitCode {
     } else {
         compare(&options.plan)
     };
-    match agreed {
+    let recorded = match (&options.record, &agreed) {
+        (Some(path), Ok(true)) => options
+            .plan
+            .recorder
+            .write(path, options.plan.seed, options.plan.count)
+            .map(|counts| println!("{counts}")),
+        _ => Ok(()),
+    };
+    match recorded.and(agreed) {
         Ok(true) => ExitCode::SUCCESS,
         Ok(false) => ExitCode::FAILURE,
         Err(error) => {
@@ -87,6 +100,7 @@ fn options() -> Option<Options> {
     let mut self_test = false;
     let mut seed = 1;
     let mut count = None;
+    let mut record = None;
 
     let mut arguments = env::args().skip(1);
     while let Some(argument) = arguments.next() {
@@ -95,11 +109,16 @@ fn options() -> Option<Options> {
             "--self-test" => self_test = true,
             "--seed" => seed = arguments.next()?.parse().ok()?,
             "--count" => count = Some(arguments.next()?.parse().ok()?),
+            "--record" => record = Some(arguments.next()?),
             _ => return None,
         }
     }
 
-    let short = short || self_test;
+    let short = short || self_test || record.is_some();
+    let recorder = match record {
+        Some(_) => Recorder::on(),
+        None => Recorder::default(),
+    };
     let default = match (self_test, short) {
         (true, _) => 1_000,
         (_, true) => 100_000,
@@ -107,7 +126,13 @@ fn options() -> Option<Options> {
     };
     let count = count.unwrap_or(default);
     Some(Options {
-        plan: Plan { short, seed, count },
+        plan: Plan {
+            short,
+            seed,
+            count,
+            recorder,
+        },
         self_test,
+        record,
     })
 }

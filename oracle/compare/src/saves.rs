@@ -14,7 +14,7 @@ mod library;
 mod model;
 mod states;
 
-use crate::{form::Form, report::Report, Plan};
+use crate::{form::Form, record::Recorder, report::Report, Plan};
 use common::Random;
 use kinds::KINDS;
 use model::After;
@@ -35,7 +35,7 @@ pub const READ_BACK: usize = 2;
 
 /// Compares the library's `hand_out` and `finish`, and its `read_list` of what they made.
 pub fn compare(plan: &Plan, library: &dyn Library) -> io::Result<[Report; 3]> {
-    let mut comparison = Comparison::new(library);
+    let mut comparison = Comparison::new(library, &plan.recorder);
     comparison.page_sizes();
     comparison.group = "document 01".into();
     fixed::each::<nomt_4096::Plain>(&mut comparison, Form::Fixed)?;
@@ -76,6 +76,7 @@ fn long_histories(plan: &Plan) -> u64 {
 
 pub struct Comparison<'a> {
     library: &'a dyn Library,
+    recorder: &'a Recorder,
     reports: [Report; 3],
     /// How many calls of each report were made.
     calls: [u64; 3],
@@ -104,9 +105,10 @@ const REPLIES: [&[u32]; 3] = [
 ];
 
 impl<'a> Comparison<'a> {
-    fn new(library: &'a dyn Library) -> Comparison<'a> {
+    fn new(library: &'a dyn Library, recorder: &'a Recorder) -> Comparison<'a> {
         Comparison {
             library,
+            recorder,
             reports: ["hand_out", "finish", "read_list after a save"].map(Report::new),
             calls: [0; 3],
             replies: Default::default(),

@@ -1,7 +1,11 @@
 //! `total`: how many pages a value of some size takes, how many of their numbers are in its
 //! cell, and how many bytes of the pages are neither header nor value.
 
-use crate::{report::Report, Plan};
+use crate::{
+    record::{Kind, Line},
+    report::Report,
+    Plan,
+};
 use common::Random;
 use mopsienna_sys::Reply;
 use nomt_4096::beatree::{
@@ -19,7 +23,16 @@ const SIZE_REFUSED: u32 = 10;
 /// Compares the library's `total`.
 pub fn compare(plan: &Plan, library: impl Fn(u64) -> Reply) -> Report {
     let mut report = Report::new("total");
-    let mut check = |size: u64| report.check(size, &expected(size), &library(size));
+    let mut check = |size: u64| {
+        let expected = expected(size);
+        if plan.recorder.is_on() {
+            let (most, class) = recorded(size);
+            plan.recorder.keep(most, class.into(), 8, || {
+                Line::new(Kind::Total).number(size).reply(&expected)
+            });
+        }
+        report.check(size, &expected, &library(size))
+    };
 
     (0..=200_000).for_each(&mut check);
 
@@ -60,6 +73,32 @@ fn expected(size: u64) -> Reply {
     }
     let total = rust_total(size);
     Reply::answer(&[total, total.min(CELL_NUMBERS), BODY_SIZE * total - size])
+}
+
+/// How many lines are recorded of sizes like this, and what these are called.
+fn recorded(size: u64) -> (usize, &'static str) {
+    const SAMPLES: [u64; 10] = [
+        1,
+        61_380,
+        61_381,
+        65_468,
+        65_469,
+        4_243_402,
+        4_243_403,
+        4_243_404,
+        MAX_SIZE - 1,
+        MAX_SIZE,
+    ];
+    let inside = (2..MAX_SIZE).contains(&size);
+    let changes = inside
+        && (rust_total(size - 1) != rust_total(size) || rust_total(size) != rust_total(size + 1));
+    match size {
+        _ if SAMPLES.contains(&size) => (SAMPLES.len(), "samples"),
+        0..=200_000 if changes => (120, "first changes"),
+        _ if changes => (60, "changes"),
+        _ if inside => (110, "others"),
+        _ => (6, "none"),
+    }
 }
 
 fn rust_total(size: u64) -> u64 {

@@ -20,7 +20,7 @@ mod model;
 mod walks;
 mod written;
 
-use crate::{form::Form, report::Report, Plan};
+use crate::{form::Form, record::Recorder, report::Report, Plan};
 use common::Random;
 use mopsienna_sys::{sized::NO_PAGE_SIZE, Reply};
 use nomt_plain::Values;
@@ -67,7 +67,7 @@ pub fn compare(plan: &Plan, library: &dyn Library) -> io::Result<[Report; 6]> {
     };
     let cases = plan.count / RANDOM_SHARE;
     let seed = plan.seed;
-    let mut comparison = Comparison::new(library);
+    let mut comparison = Comparison::new(library, &plan.recorder);
     comparison.page_sizes();
     // libmopsienna comes first, so that the first case of a kind is at its page size.
     comparison.at::<nomt_4096::Plain>(Form::Fixed, extent, seed, cases / 10)?;
@@ -94,6 +94,7 @@ type Classes = BTreeMap<(u32, &'static str), (u64, String)>;
 
 pub struct Comparison<'a> {
     library: &'a dyn Library,
+    recorder: &'a Recorder,
     reports: [Report; 6],
     /// How many calls of each report were made.
     calls: [u64; 6],
@@ -139,9 +140,10 @@ const REPLIES: [&[u32]; 6] = [
 ];
 
 impl<'a> Comparison<'a> {
-    fn new(library: &'a dyn Library) -> Comparison<'a> {
+    fn new(library: &'a dyn Library, recorder: &'a Recorder) -> Comparison<'a> {
         Comparison {
             library,
+            recorder,
             reports: OPERATIONS.map(Report::new),
             calls: [0; 6],
             replies: Default::default(),

@@ -79,7 +79,7 @@ impl Case {
 
     /// Writes to a page, unless the store was cut above it.
     fn write(&mut self, page: u32, at: usize, bytes: &[u8]) {
-        if (page as usize) < page_count(self.store.bytes()) {
+        if (page as usize) < page_count(PAGE, self.store.bytes()) {
             self.store.bytes_mut()[page as usize * PAGE + at..][..bytes.len()]
                 .copy_from_slice(bytes);
         }

@@ -2,7 +2,7 @@
 
 use common::lists::{Portions, CAPACITY};
 use mopsienna_sys::Reply;
-use nomt_4096::{beatree::allocator::PageNumber, io::PAGE_SIZE};
+use nomt_4096::beatree::allocator::PageNumber;
 
 /// Refusals, by document 01's numbers.
 pub const PAST_STORE: u32 = 2;
@@ -12,13 +12,13 @@ pub const NOT_ENDED: u32 = 5;
 pub const TABLES: u32 = 6;
 
 /// How many pages a store has.
-pub fn page_count(store: &[u8]) -> usize {
-    (store.len() / PAGE_SIZE).min(u32::MAX as usize)
+pub fn page_count(page_size: usize, store: &[u8]) -> usize {
+    (store.len() / page_size).min(u32::MAX as usize)
 }
 
 /// The list from this page down, or its refusal.
-pub fn read(store: &[u8], head: u32) -> Result<Portions, Reply> {
-    let page_count = page_count(store);
+pub fn read(page_size: usize, store: &[u8], head: u32) -> Result<Portions, Reply> {
+    let page_count = page_count(page_size, store);
     let mut from_head_down: Portions = vec![];
     let mut page = head;
     while page != 0 {
@@ -29,9 +29,9 @@ pub fn read(store: &[u8], head: u32) -> Result<Portions, Reply> {
         if page as usize >= page_count {
             return refused(PAST_STORE);
         }
-        let bytes = &store[page as usize * PAGE_SIZE..][..PAGE_SIZE];
+        let bytes = &store[page as usize * page_size..][..page_size];
         let count = u16::from_le_bytes([bytes[4], bytes[5]]).into();
-        if !fits(count, &from_head_down) {
+        if !fits((page_size - 6) / 4, count, &from_head_down) {
             return refused(COUNT);
         }
         let entries: Vec<PageNumber> = bytes[6..]
@@ -54,11 +54,11 @@ pub fn read(store: &[u8], head: u32) -> Result<Portions, Reply> {
 }
 
 /// Whether a count fits the page below the given ones.
-fn fits(count: usize, above: &Portions) -> bool {
+fn fits(capacity: usize, count: usize, above: &Portions) -> bool {
     match above.as_slice() {
-        [] => (1..=CAPACITY).contains(&count),
-        [(_, head)] if head.len() == 1 => count == CAPACITY || count == CAPACITY - 1,
-        _ => count == CAPACITY,
+        [] => (1..=capacity).contains(&count),
+        [(_, head)] if head.len() == 1 => count == capacity || count == capacity - 1,
+        _ => count == capacity,
     }
 }
 

@@ -5,9 +5,12 @@ use super::{
     model::{self, After},
     Comparison, Form, FINISH, HAND_OUT, READ_BACK,
 };
-use crate::report::difference;
+use crate::{
+    record::{Kind, Line},
+    report::difference,
+};
 use common::Random;
-use mopsienna_sys::{sized::NO_PAGE_SIZE, Reply, Save};
+use mopsienna_sys::{sized::NO_PAGE_SIZE, Lent, Reply, Save};
 use nomt_plain::{Held, List, Rust};
 use std::io;
 
@@ -81,6 +84,22 @@ impl Comparison<'_> {
                 Reply::answer(&[number.into(), save.count + 1, length.into()])
             }
         };
+        let past = save.count >= save.entries;
+        let most = if expected.number == 0 { 40 } else { 3 };
+        self.recorder.keep(
+            most,
+            format!("{} {past}", R::PAGE_SIZE),
+            pages.len() + entries.len(),
+            || {
+                Line::new(Kind::HandOut)
+                    .save(R::PAGE_SIZE, save)
+                    .length(pages)
+                    .places(pages, save.pages as usize)
+                    .length(entries)
+                    .places(entries, save.entries as usize)
+                    .reply(&expected)
+            },
+        );
         let reply = self.library.hand_out(form, save, pages, entries);
         self.count(HAND_OUT, &expected, &reply, true, || {
             format!(
@@ -211,6 +230,7 @@ impl Comparison<'_> {
                 after.written.len() as u64,
             ])
         });
+        self.record_finish::<R>(save, list, freed, &got, &expected, &expected_lent, after);
         let reply = self.library.finish(form, save, freed, &mut got);
         let same = got == expected_lent;
         self.count(FINISH, &expected, &reply, same, || {
@@ -225,6 +245,54 @@ impl Comparison<'_> {
                 difference("numbers", &expected_lent.numbers, &got.numbers),
             )
         });
+    }
+
+    /// Keeps a finish. What tells the saves apart is whether the list was fragmented before and is
+    /// after, how it grew, whether the bump was raised and whether anything was handed out or freed.
+    #[allow(clippy::too_many_arguments)]
+    fn record_finish<R: Rust>(
+        &self,
+        save: &Save,
+        list: &List,
+        freed: &[u32],
+        before: &Lent,
+        expected: &Reply,
+        expected_lent: &Lent,
+        after: &After,
+    ) {
+        let old = model::size(list);
+        let new = model::size(&after.state.list);
+        let answered = expected.number == 0;
+        let fragmented = |(pages, entries)| model::is_fragmented(R::CAPACITY, pages, entries);
+        let mut class = R::PAGE_SIZE.to_string();
+        if answered {
+            class += &format!(
+                " {} {} {:?} {} {} {}",
+                fragmented(old),
+                fragmented(new),
+                new.0.cmp(&old.0),
+                u64::from(after.state.bump) > model::freed_limit(save),
+                save.count > 0,
+                freed.is_empty(),
+            );
+        }
+        let lent = before.entries.len() + freed.len() + before.buffer.len();
+        self.recorder
+            .keep(if answered { 4 } else { 3 }, class, lent, || {
+                let kept = |old: usize, new: usize| if answered { old.max(new) } else { old };
+                let written = if answered { after.written.len() } else { 0 };
+                Line::new(Kind::Finish)
+                    .save(R::PAGE_SIZE, save)
+                    .tables(before, old)
+                    .array(freed)
+                    .length(&before.buffer)
+                    .length(&before.numbers)
+                    .reply(expected)
+                    .places(&expected_lent.pages, kept(old.0, new.0))
+                    .places(&expected_lent.entries, kept(old.1, new.1))
+                    .places(&expected_lent.buffer, written * R::PAGE_SIZE)
+                    .places(&expected_lent.numbers, written)
+            });
     }
 
     /// Reads the list that a save made back from the store, on both sides.
@@ -259,6 +327,18 @@ impl Comparison<'_> {
             fragmented: model::is_fragmented(R::CAPACITY, pages, entries),
         };
         let answer = Reply::answer(&[pages as u64, entries as u64]);
+        self.recorder
+            .keep(12, R::PAGE_SIZE.to_string(), store.bytes().len(), || {
+                Line::new(Kind::ReadList)
+                    .number(R::PAGE_SIZE as u64)
+                    .number(after.head)
+                    .array(store.bytes())
+                    .length(&expected.pages)
+                    .length(&expected.entries)
+                    .reply(&answer)
+                    .places(&expected.pages, pages)
+                    .places(&expected.entries, entries)
+            });
         let same = got == expected && rust == held;
         self.count(READ_BACK, &answer, &reply, same, || {
             format!(

@@ -5,6 +5,7 @@ use super::{
     lent::{lent, Room},
     model, Comparison, Form, FINISH,
 };
+use crate::record::{Kind, Line};
 use common::Random;
 use mopsienna_sys::Save;
 use nomt_plain::{List, Rust, State};
@@ -61,6 +62,23 @@ fn one<R: Rust>(comparison: &mut Comparison, form: Form, random: &mut Random) ->
     let freed = any_freed(R::CAPACITY, &save, random);
     let refusal = model::finish_at_once(R::CAPACITY, &save, &tables.pages, &tables.entries);
     if let Some(refusal) = refusal {
+        let places = tables.entries.len() + freed.len();
+        comparison
+            .recorder
+            .keep(4, R::PAGE_SIZE.to_string(), places, || {
+                let (pages, entries) = model::size(&state.list);
+                Line::new(Kind::Finish)
+                    .save(R::PAGE_SIZE, &save)
+                    .tables(&tables, (pages, entries))
+                    .array(&freed)
+                    .length(&tables.buffer)
+                    .length(&tables.numbers)
+                    .reply(&refusal)
+                    .places(&tables.pages, pages)
+                    .places(&tables.entries, entries)
+                    .places(&tables.buffer, 0)
+                    .places(&tables.numbers, 0)
+            });
         let mut got = tables.clone();
         let reply = comparison.library.finish(form, &save, &freed, &mut got);
         comparison.count(FINISH, &refusal, &reply, got == tables, || {

@@ -5,7 +5,12 @@ use super::{
     lent::{numbers_text, untouched_bytes, untouched_numbers},
     model, Comparison, DECODE, DELETE, ENCODE, LOOKUP, READ, WRITE,
 };
-use crate::{form::Form, panics::unless_panic, report::difference};
+use crate::{
+    form::Form,
+    panics::unless_panic,
+    record::{Kind, Line},
+    report::difference,
+};
 use mopsienna_sys::{sized::NO_PAGE_SIZE, values::Hash, Reply};
 use nomt_plain::Values;
 
@@ -62,6 +67,24 @@ impl Comparison<'_> {
             expected[..R::PAGE_SIZE].copy_from_slice(&pages[index as usize].1);
             Reply::answer(&[])
         });
+        let written = expected_reply.number == 0;
+        let past_cell = numbers.len() > model::CELL_NUMBERS;
+        let most = if written { 24 } else { 1 };
+        self.recorder.keep(
+            most,
+            format!("{} {past_cell} {}", R::PAGE_SIZE, index == 0),
+            value.len() + numbers.len() + length,
+            || {
+                Line::new(Kind::WritePage)
+                    .number(R::PAGE_SIZE as u64)
+                    .number(index)
+                    .array(value)
+                    .array(numbers)
+                    .length(&expected)
+                    .status(&expected_reply)
+                    .places(&expected, if written { R::PAGE_SIZE } else { 0 })
+            },
+        );
         let reply = self
             .library
             .write_value_page(form, value, numbers, index, &mut got);
@@ -105,6 +128,21 @@ impl Comparison<'_> {
             }
             (None, None) => return self.disagree(ENCODE, "the Rust panics", text),
         };
+        let written = match expected_reply.number {
+            0 => model::CELL_START + 4 * numbers.len(),
+            _ => 0,
+        };
+        let most = if written > 0 { 60 } else { 6 };
+        self.recorder
+            .keep(most, String::new(), numbers.len() + length, || {
+                Line::new(Kind::EncodeCell)
+                    .number(size)
+                    .array(hash)
+                    .array(numbers)
+                    .length(&expected)
+                    .status(&expected_reply)
+                    .places(&expected, written)
+            });
         let reply = self.library.encode_cell(size, hash, numbers, &mut got);
         let same = got == expected;
         self.count(ENCODE, &expected_reply, &reply, same, || {
@@ -138,6 +176,14 @@ impl Comparison<'_> {
                 refusal
             }
         };
+        let read = expected_reply.number == 0;
+        let most = if read { 60 } else { 6 };
+        self.recorder.keep(most, String::new(), cell.len(), || {
+            Line::new(Kind::DecodeCell)
+                .array(cell)
+                .reply(&expected_reply)
+                .places(&expected, if read { expected.len() } else { 0 })
+        });
         let mut hash = UNTOUCHED_HASH;
         let reply = self.library.decode_cell(cell, &mut hash);
         self.count(DECODE, &expected_reply, &reply, hash == expected, || {

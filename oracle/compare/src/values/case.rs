@@ -38,7 +38,7 @@ pub enum Harm {
 pub struct Case {
     pub store: Store,
     pub cell: Vec<u8>,
-    page_size: usize,
+    pub page_size: usize,
     length: usize,
     text: String,
 }

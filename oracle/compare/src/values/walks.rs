@@ -6,7 +6,12 @@ use super::{
     model::{self, Walked},
     Comparison, DELETE, READ,
 };
-use crate::{form::Form, panics::unless_panic, report::difference};
+use crate::{
+    form::Form,
+    panics::unless_panic,
+    record::{Kind, Line},
+    report::difference,
+};
 use mopsienna_sys::Reply;
 use nomt_plain::Values;
 use std::io;
@@ -115,6 +120,28 @@ impl Comparison<'_> {
             }
         };
         let store = case.store.bytes();
+        let read = expected.number == 0;
+        let read_size = match model {
+            Ok(walked) if read => walked.size,
+            _ => 0,
+        };
+        let class = if read { &self.group } else { "" };
+        self.recorder.keep(
+            if read { 7 } else { 3 },
+            class.into(),
+            store.len() + bytes,
+            || {
+                Line::new(Kind::ReadValue)
+                    .number(case.page_size as u64)
+                    .array(&case.cell)
+                    .array(store)
+                    .length(&expected_table)
+                    .length(&expected_value)
+                    .reply(&expected)
+                    .places(&expected_table, found(model, &expected))
+                    .places(&expected_value, read_size)
+            },
+        );
         let reply = self
             .library
             .read_value(form, &case.cell, store, &mut table, &mut value);
@@ -141,6 +168,22 @@ impl Comparison<'_> {
             }
         };
         let store = case.store.bytes();
+        let deleted = expected.number == 0;
+        let class = if deleted { &self.group } else { "" };
+        self.recorder.keep(
+            if deleted { 6 } else { 3 },
+            class.into(),
+            store.len(),
+            || {
+                Line::new(Kind::DeleteValue)
+                    .number(case.page_size as u64)
+                    .array(&case.cell)
+                    .array(store)
+                    .length(&expected_table)
+                    .reply(&expected)
+                    .places(&expected_table, found(model, &expected))
+            },
+        );
         let reply = self
             .library
             .delete_value(form, &case.cell, store, &mut table);
@@ -151,6 +194,14 @@ impl Comparison<'_> {
                 difference("numbers", &expected_table, &table),
             )
         });
+    }
+}
+
+/// How many numbers stand in the table after a call.
+fn found(model: &Result<Walked, Reply>, reply: &Reply) -> usize {
+    match model {
+        Ok(walked) if reply.number != model::ROOM => walked.numbers.len(),
+        _ => 0,
     }
 }
 
