@@ -5,11 +5,12 @@ ghost use Rattle.page.specs.PageSize.{PageSize, pageSize};
 ghost use Rattle.allocator.specs.Finish.{finishInto};
 ghost use Rattle.allocator.specs.Answers.{saveOf};
 ghost use Rattle.mopsienna.specs.Saves.{openSave, handOutValues, finishValues};
-use allocator::allocate::Allocated;
-use allocator::allocate::allocate_from;
 use allocator::finish::Finishing;
 use allocator::finish::finish_save;
 use allocator::save::Save;
+use open_save::HandedOut;
+use open_save::OpenSave;
+use open_save::Start;
 use page::PAGE_SIZE;
 use page::number::Allocations;
 
@@ -76,14 +77,16 @@ pub fn hand_out(size: usize, save: Save, pages: &[u32], entries: &[u32], out: &m
     ensures status { λ r. ⌜ r ≡ status (handOutValues size (saveOf save (now (pages .entry)) (now (entries .entry)))) ⌝ }
     ensures out { λ _. ⌜ now (out .exit) ≡ filled (now (out .entry)) (handOutValues size (saveOf save (now (pages .entry)) (now (entries .entry)))) ⌝ }
 {
-    match allocate_from(size, save, pages, entries) {
-        Allocated::Number(number, next) => {
+    let handed = open_save::hand_out(size, Start::of(save), OpenSave::of(save), pages, entries);
+    let answer = handed.answer;
+    match answer {
+        HandedOut::Number(number) => {
             out[0] = number.0 as u64;
-            out[1] = next.allocations.0 as u64;
-            out[2] = next.length as u64;
+            out[1] = handed.save.allocations.0 as u64;
+            out[2] = handed.save.length as u64;
             0
         }
-        Allocated::Refused(r) => r.report(out),
+        HandedOut::Refused(r) => r.report(out),
     }
 }
 

@@ -1,0 +1,2 @@
+-- The machine values of what is passed, for the two proofs by hand.
+pub mod Values

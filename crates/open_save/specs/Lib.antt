@@ -1,0 +1,2 @@
+-- Handing out where the save stands.
+pub mod CountUp
