@@ -53,6 +53,10 @@ module _ (s : ℕ) (store : List ℕ) where
   none-left above entries zero h = absurd (omega arith)
   none-left above entries (suc p) h = refl
 
+  -- one page fewer is allowed
+  fewer : (a above entries p : ℕ) → readFrom s store a above entries p ≡ refused 5 [] → readFrom s store (suc a - 1) above entries p ≡ refused 5 []
+  fewer a above entries p e = let one : suc a - 1 ≡ a = omega arith in rw one e
+
   -- A page from which a walk comes back to it by full pages is on a chain that does not end, and so is every page on the way.
   module _ (n p : ℕ) (round : Trail s store (suc n) p p) where
     on-the-way : (allowed m q above entries : ℕ) → Trail s store m q p → 2 ≤ above → readFrom s store allowed above entries q ≡ refused 5 []
@@ -60,15 +64,9 @@ module _ (s : ℕ) (store : List ℕ) where
     on-the-way zero (suc m) q above entries t h = none-left above entries q (t .0 .some)
     on-the-way (suc allowed) zero q above entries t h =
         subst (λ (x : ℕ). readFrom s store (suc allowed) above entries x ≡ refused 5 []) (sym t)
-        (whole-chain (suc allowed) above entries p (omega arith) (round .0) (fewer allowed (prevOf (pageAt s store p)) (on-the-way allowed n (prevOf (pageAt s store p)) (above + 1) (entries + countOf (pageAt s store p)) (round .1) (omega arith))) h)
-      where
-        fewer : (a x : ℕ) → readFrom s store a (above + 1) (entries + countOf (pageAt s store p)) x ≡ refused 5 [] → readFrom s store (suc a - 1) (above + 1) (entries + countOf (pageAt s store p)) x ≡ refused 5 []
-        fewer a x e = let one : suc a - 1 ≡ a = omega arith in rw one e
+        (whole-chain (suc allowed) above entries p (omega arith) (round .0) (fewer allowed _ _ _ (on-the-way allowed n (prevOf (pageAt s store p)) (above + 1) (entries + countOf (pageAt s store p)) (round .1) (omega arith))) h)
     on-the-way (suc allowed) (suc m) q above entries t h =
-        whole-chain (suc allowed) above entries q (omega arith) (t .0) (fewer allowed (prevOf (pageAt s store q)) (on-the-way allowed m (prevOf (pageAt s store q)) (above + 1) (entries + countOf (pageAt s store q)) (t .1) (omega arith))) h
-      where
-        fewer : (a x : ℕ) → readFrom s store a (above + 1) (entries + countOf (pageAt s store q)) x ≡ refused 5 [] → readFrom s store (suc a - 1) (above + 1) (entries + countOf (pageAt s store q)) x ≡ refused 5 []
-        fewer a x e = let one : suc a - 1 ≡ a = omega arith in rw one e
+        whole-chain (suc allowed) above entries q (omega arith) (t .0) (fewer allowed _ _ _ (on-the-way allowed m (prevOf (pageAt s store q)) (above + 1) (entries + countOf (pageAt s store q)) (t .1) (omega arith))) h
 
   -- ---- the code's walk
 

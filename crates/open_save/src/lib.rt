@@ -4,11 +4,12 @@
 // `OpenSave::hand_out` and `hand_out`, which lends a save of its own, are proved by hand. Whoever calls `hand_out` needs no such proof: its
 // parameters are plain.
 ghost use mathlib.Core.Path.{_≡_};
-ghost use Rattle.page.specs.PageSize.{PageSize};
+ghost use Rattle.page.specs.PageSize.{PageSize, pageSize};
 ghost use Rattle.open_save.specs.CountUp.{countUp, saveOf, startOf, openOf, countedBy};
 use allocator::allocate::Allocated;
 use allocator::allocate::allocate_from;
 use allocator::save::Save;
+use page::PAGE_SIZE;
 use page::number::Allocations;
 use page::number::PageNumber;
 use refusal::Refusal;
@@ -84,7 +85,14 @@ impl OpenSave {
     }
 }
 
-// The same with the open save by value.
+// The same at document 01's page size, with the open save by value.
+pub fn next_number(start: Start, save: OpenSave, pages: &[u32], entries: &[u32]) -> Handed
+    ensures { λ r. ⌜ countedBy (r .answer) (r .save) ≡ countUp pageSize (saveOf start save (now (pages .entry)) (now (entries .entry))) ⌝ }
+{
+    hand_out(PAGE_SIZE, start, save, pages, entries)
+}
+
+// The same at any page size.
 pub fn hand_out(size: usize, start: Start, save: OpenSave, pages: &[u32], entries: &[u32]) -> Handed
     requires { ⌜ PageSize size ⌝ }
     ensures { λ r. ⌜ countedBy (r .answer) (r .save) ≡ countUp size (saveOf start save (now (pages .entry)) (now (entries .entry))) ⌝ }

@@ -4,7 +4,6 @@ use mathlib.Core.Path.{refl, sym, _∙_}
 use borrow.Author.Tests.{not-true, not-false}
 use Rattle.sized.proofs.SizesLaws.{is-page-size, clash}
 use borrow.Author.Needs.{needs}
-use borrow.Author.Needs.{needs}
 use Rattle.sized.proofs.sized_read_value.Statement.{statement}
 use Rattle.sized.proofs.sized_read_value.Tie as tie
 

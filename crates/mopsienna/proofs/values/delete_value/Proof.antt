@@ -5,7 +5,6 @@ use Rattle.overflow.specs.Reading.{DeleteEffect, deletedOutcome}
 use Rattle.mopsienna.specs.Values.{deleteValueValues}
 use Rattle.mopsienna.proofs.OutcomeLaws.{outcome-is}
 use borrow.Author.Needs.{needs}
-use borrow.Author.Needs.{needs}
 use Rattle.mopsienna.proofs.values.delete_value.Statement.{statement}
 use Rattle.mopsienna.proofs.values.delete_value.Tie as tie
 

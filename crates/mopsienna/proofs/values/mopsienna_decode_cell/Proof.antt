@@ -5,7 +5,6 @@ use Rattle.overflow.specs.Cells.{DecodeEffect, decodedOutcome}
 use Rattle.mopsienna.specs.Values.{decodeCellValues}
 use Rattle.mopsienna.proofs.OutcomeLaws.{outcome-is}
 use borrow.Author.Needs.{needs}
-use borrow.Author.Needs.{needs}
 use Rattle.mopsienna.proofs.values.mopsienna_decode_cell.Statement.{statement}
 use Rattle.mopsienna.proofs.values.mopsienna_decode_cell.Tie as tie
 

@@ -5,7 +5,6 @@ use Rattle.overflow.specs.Stored.{Stored, writtenOutcome}
 use Rattle.mopsienna.specs.Values.{encodeCellValues}
 use Rattle.mopsienna.proofs.OutcomeLaws.{outcome-is}
 use borrow.Author.Needs.{needs}
-use borrow.Author.Needs.{needs}
 use Rattle.mopsienna.proofs.values.mopsienna_encode_cell.Statement.{statement}
 use Rattle.mopsienna.proofs.values.mopsienna_encode_cell.Tie as tie
 

@@ -2,7 +2,6 @@
 -- Assumes nothing.
 use Rattle.page.proofs.PageSizeLaws.{page-size}
 use borrow.Author.Needs.{needs}
-use borrow.Author.Needs.{needs}
 use Rattle.mopsienna.proofs.values.mopsienna_write_value_page.Statement.{statement}
 use Rattle.mopsienna.proofs.values.mopsienna_write_value_page.Tie as tie
 

@@ -5,7 +5,6 @@ use Rattle.overflow.specs.Reading.{ReadEffect, readOutcome}
 use Rattle.mopsienna.specs.Values.{readValueValues}
 use Rattle.mopsienna.proofs.OutcomeLaws.{outcome-is}
 use borrow.Author.Needs.{needs}
-use borrow.Author.Needs.{needs}
 use Rattle.mopsienna.proofs.values.read_value.Statement.{statement}
 use Rattle.mopsienna.proofs.values.read_value.Tie as tie
 

@@ -5,7 +5,6 @@ use Rattle.overflow.specs.Stored.{Stored, writtenOutcome}
 use Rattle.mopsienna.specs.Values.{writePageValues}
 use Rattle.mopsienna.proofs.OutcomeLaws.{outcome-is}
 use borrow.Author.Needs.{needs}
-use borrow.Author.Needs.{needs}
 use Rattle.mopsienna.proofs.values.write_value_page.Statement.{statement}
 use Rattle.mopsienna.proofs.values.write_value_page.Tie as tie
 

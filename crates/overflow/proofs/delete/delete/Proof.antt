@@ -2,7 +2,6 @@
 -- Assumes nothing.
 use Rattle.page.proofs.PageSizeLaws.{page-size}
 use borrow.Author.Needs.{needs}
-use borrow.Author.Needs.{needs}
 use Rattle.overflow.proofs.delete.delete.Statement.{statement}
 use Rattle.overflow.proofs.delete.delete.Tie as tie
 

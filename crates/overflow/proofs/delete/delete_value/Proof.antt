@@ -9,7 +9,6 @@ use Rattle.overflow.specs.Reading.{deleteCell, deleteInto}
 use Rattle.overflow.specs.Steps.{walkedOutcome}
 use Rattle.overflow.proofs.ReadLaws.{celled, admitted-refused, admitted-zero, admitted-short, short-numbers, walkable, delete-stopped, delete-numbers, delete-all}
 use borrow.Author.Needs.{needs}
-use borrow.Author.Needs.{needs}
 use Rattle.overflow.proofs.delete.delete_value.Statement.{statement}
 use Rattle.overflow.proofs.delete.delete_value.Tie as tie
 

@@ -10,7 +10,6 @@ use Rattle.overflow.specs.Reading.{readCell, readInto}
 use Rattle.overflow.specs.Steps.{walkedOutcome}
 use Rattle.overflow.proofs.ReadLaws.{celled, admitted-refused, admitted-zero, admitted-short, short-table, short-value, walkable, read-stopped, read-numbers, read-bytes, copyable, read-all}
 use borrow.Author.Needs.{needs}
-use borrow.Author.Needs.{needs}
 use Rattle.overflow.proofs.read.read_value.Statement.{statement}
 use Rattle.overflow.proofs.read.read_value.Tie as tie
 

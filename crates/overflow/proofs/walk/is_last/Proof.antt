@@ -1,7 +1,6 @@
 -- `is_last` meets its contract: its tests are the definition's.
 -- Assumes nothing.
 use borrow.Author.Needs.{needs}
-use borrow.Author.Needs.{needs}
 use Rattle.overflow.proofs.walk.is_last.Statement.{statement}
 use Rattle.overflow.proofs.walk.is_last.Tie as tie
 

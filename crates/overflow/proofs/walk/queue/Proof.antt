@@ -8,7 +8,6 @@ use lib.Seq.{take-all}
 use Rattle.page.specs.Bytes.{numbersAt}
 use Rattle.page.proofs.BytesLaws.{take-numbersAt, length-numbersAt}
 use borrow.Author.Needs.{needs}
-use borrow.Author.Needs.{needs}
 use Rattle.overflow.proofs.walk.queue.Statement.{statement}
 use Rattle.overflow.proofs.walk.queue.Tie as tie
 

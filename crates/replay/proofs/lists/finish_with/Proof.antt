@@ -2,7 +2,6 @@
 -- Assumes nothing.
 use native.Mathlib.Omega.{arith}
 use borrow.Author.Needs.{needs}
-use borrow.Author.Needs.{needs}
 use Rattle.replay.proofs.lists.finish_with.Statement.{statement}
 use Rattle.replay.proofs.lists.finish_with.Tie as tie
 

@@ -4,7 +4,6 @@ use mathlib.Core.Path.{sym}
 use native.Mathlib.Omega.{arith}
 use lib.Seq.{length-take-le}
 use borrow.Author.Needs.{needs}
-use borrow.Author.Needs.{needs}
 use Rattle.replay.proofs.numbers.count_bytes.Statement.{statement}
 use Rattle.replay.proofs.numbers.count_bytes.Tie as tie
 
