@@ -12,7 +12,7 @@
 //! were read before. Both make the Rust's own vectors. The copy is of as many bytes from the store's
 //! memory to the value buffer, at once. The pages lie in the store in order. In
 //! `read-SIZE-scattered` they lie about in it, the Rust's side is that over pages that were read
-//! before, and the copy takes them one by one from where they lie.
+//! before and lie about in the same way, and the copy takes them one by one from where they lie.
 //!
 //! `delete-SIZE` collects the numbers of the pages; the Rust's side is its `delete`, which reads
 //! pages from the file.

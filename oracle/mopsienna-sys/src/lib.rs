@@ -169,6 +169,7 @@ pub fn hand_out(save: &Save, pages: &[u32], entries: &[u32]) -> Reply {
 }
 
 /// The same into places that are there already: 0 or the refusal's number.
+#[inline]
 pub fn hand_out_into(save: &Save, pages: &[u32], entries: &[u32], out: &mut Out) -> u32 {
     // SAFETY: the function reads only the tables, and writes only to the eight places of `out`.
     unsafe {

@@ -242,12 +242,18 @@ impl Value {
         freed
     }
 
-    /// The pages, in the order of the walk.
+    /// The pages, in the order of the walk. They are read in the order of their numbers, so that they
+    /// lie about in memory as they do in the store.
     fn read_pages(&self) -> Vec<FatPage> {
-        let numbers = self.numbers.iter();
-        numbers
-            .map(|page| read_page(&PagePool, self.store.file(), (*page).into()).unwrap())
-            .collect()
+        let mut pages: Vec<_> = self.numbers.iter().copied().enumerate().collect();
+        pages.sort_by_key(|(_, number)| *number);
+        let read = |number: u32| read_page(&PagePool, self.store.file(), number.into()).unwrap();
+        let mut pages: Vec<_> = pages
+            .into_iter()
+            .map(|(at, page)| (at, read(page)))
+            .collect();
+        pages.sort_by_key(|(at, _)| *at);
+        pages.into_iter().map(|(_, page)| page).collect()
     }
 
     /// The loop of the Rust's `read_blocking`, without its reading of pages.
