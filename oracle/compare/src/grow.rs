@@ -62,6 +62,7 @@ pub fn compare(plan: &Plan, library: impl Fn(u32) -> Reply) -> io::Result<Report
             _ => random.bits() as u32,
         })?;
     }
+    report.reached(&[0, PAST_LAST]);
     Ok(report)
 }
 

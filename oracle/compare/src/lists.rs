@@ -24,7 +24,7 @@ use nomt_4096::{
     io::PAGE_SIZE,
 };
 use rust::Rust;
-use std::{collections::BTreeMap, io};
+use std::io;
 
 /// There is one random list for so many random cases of other operations, as it takes longer.
 pub const RANDOM_SHARE: u64 = 20;
@@ -37,9 +37,6 @@ pub fn compare(
     let mut comparison = Comparison {
         library,
         report: Report::new("read_list"),
-        calls: 0,
-        replies: BTreeMap::new(),
-        classes: BTreeMap::new(),
     };
     let mut check = |case: &Case| comparison.check(case);
     fixed::each(&mut check)?;
@@ -48,17 +45,20 @@ pub fn compare(
     if plan.recorder.is_on() {
         small::record_all(plan)?;
     }
-    Ok(comparison.finish())
+    comparison.report.reached(&[
+        0,
+        model::PAST_STORE,
+        model::COUNT,
+        model::ENTRY,
+        model::NOT_ENDED,
+        model::TABLES,
+    ]);
+    Ok(comparison.report)
 }
 
 struct Comparison<L> {
     library: L,
     report: Report,
-    calls: u64,
-    /// How many calls should give 0 and each refusal.
-    replies: BTreeMap<u32, u64>,
-    /// By refusal and by what the Rust does: how many cases, and the first.
-    classes: BTreeMap<(u32, &'static str), (u64, String)>,
 }
 
 impl<L: Fn(&[u8], u32, &mut [u32], &mut [u32]) -> Reply> Comparison<L> {
@@ -86,14 +86,12 @@ impl<L: Fn(&[u8], u32, &mut [u32], &mut [u32]) -> Reply> Comparison<L> {
             (Err(_), _) => true,
         };
         if !agrees {
-            self.report.disagree(self.calls, || {
-                format!("call {}, {case}: the Rust is not as expected", self.calls)
-            });
+            self.report
+                .disagree_at_call("the Rust is not as expected", || case.to_string());
         }
         if model.is_err() || !matches!(rust, Rust::Reads(_)) {
             let number = model.as_ref().err().map_or(0, |reply| reply.number);
-            let class = self.classes.entry((number, rust.name()));
-            class.or_insert_with(|| (0, case.to_string())).0 += 1;
+            self.report.class(number, rust.name(), || case.to_string());
         }
     }
 
@@ -113,42 +111,14 @@ impl<L: Fn(&[u8], u32, &mut [u32], &mut [u32]) -> Reply> Comparison<L> {
             &mut tables.pages,
             &mut tables.entries,
         );
-        let agrees = (&reply, &tables) == (&expected.0, &expected.1);
-        *self.replies.entry(expected.0.number).or_default() += 1;
-        self.report.count(self.calls, agrees, || {
+        let same = tables == expected.1;
+        self.report.compare(&expected.0, &reply, same, || {
             format!(
-                "call {}, {case}, tables of {pages} and {entries}: expected {}, got {}{}{}",
-                self.calls,
-                expected.0,
-                reply,
+                "{case}, tables of {pages} and {entries}{}{}",
                 difference("pages", &expected.1.pages, &tables.pages),
                 difference("entries", &expected.1.entries, &tables.entries),
             )
         });
-        self.calls += 1;
-    }
-
-    /// Adds what was reached, and a disagreement for each number that was not.
-    fn finish(mut self) -> Report {
-        for number in [0, 2, 3, 4, 5, 6] {
-            if !self.replies.contains_key(&number) {
-                self.report
-                    .disagree(u64::MAX, || format!("{number} was never reached"));
-            }
-        }
-        let replies: Vec<String> = self
-            .replies
-            .iter()
-            .map(|(number, calls)| format!("{number}: {calls}"))
-            .collect();
-        self.report
-            .note(format!("replies by number: {}", replies.join(", ")));
-        for ((number, rust), (cases, first)) in self.classes {
-            self.report.note(format!(
-                "{number} where the Rust {rust}: {cases}, first {first}"
-            ));
-        }
-        self.report
     }
 }
 

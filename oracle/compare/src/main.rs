@@ -15,7 +15,11 @@ mod totals;
 mod values;
 
 use record::Recorder;
-use std::{env, io, process::ExitCode};
+use report::text_of;
+use std::{collections::BTreeMap, env, io, ops::RangeInclusive, process::ExitCode};
+
+/// The refusals of document 01's table.
+const REFUSALS: RangeInclusive<u32> = 1..=18;
 
 const USAGE: &str = "\
 usage: compare [--short] [--seed N] [--count N] [--self-test] [--record FILE]
@@ -86,13 +90,33 @@ fn compare(plan: &Plan) -> io::Result<bool> {
         &|| Ok(values::compare(plan, &values::Linked)?.into()),
     ];
     let mut agreed = true;
+    let mut reached = BTreeMap::new();
     for operation in operations {
         for report in operation()? {
             println!("{report}");
             agreed &= report.agrees();
+            for (number, calls) in report.replies() {
+                *reached.entry(*number).or_default() += calls;
+            }
         }
     }
-    Ok(agreed)
+    Ok(all_refusals(&reached) && agreed)
+}
+
+/// Shows how often each reply was expected, and tells whether every refusal of document 01 was.
+fn all_refusals(reached: &BTreeMap<u32, u64>) -> bool {
+    let calls: u64 = reached.values().sum();
+    println!(
+        "all: {calls} calls\n  replies by number: {}",
+        text_of(reached)
+    );
+    let missing: Vec<u32> = REFUSALS
+        .filter(|number| !reached.contains_key(number))
+        .collect();
+    if !missing.is_empty() {
+        println!("  never reached: {missing:?}");
+    }
+    missing.is_empty()
 }
 
 fn options() -> Option<Options> {

@@ -1,7 +1,10 @@
 //! Counts an operation's calls and keeps its smallest disagreements.
 
 use mopsienna_sys::Reply;
-use std::{collections::BTreeSet, fmt};
+use std::{
+    collections::{BTreeMap, BTreeSet},
+    fmt,
+};
 
 /// How many disagreements are kept and shown.
 const KEPT: usize = 10;
@@ -9,6 +12,10 @@ const KEPT: usize = 10;
 pub struct Report {
     operation: &'static str,
     calls: u64,
+    /// How many calls should give 0 and each refusal.
+    replies: BTreeMap<u32, u64>,
+    /// By refusal and by what the Rust does there: how many cases, and the first.
+    classes: BTreeMap<(u32, &'static str), (u64, String)>,
     disagreements: u64,
     /// Those with the smallest inputs, each with the text that tells of it.
     smallest: BTreeSet<(u64, String)>,
@@ -20,26 +27,73 @@ impl Report {
         Report {
             operation,
             calls: 0,
+            replies: BTreeMap::new(),
+            classes: BTreeMap::new(),
             disagreements: 0,
             smallest: BTreeSet::new(),
             notes: vec![],
         }
     }
 
-    /// Counts a call and compares what it gave, every place of it.
+    /// Counts a call whose input is a number, and compares what it gave, every place of it.
     pub fn check(&mut self, input: u64, expected: &Reply, got: &Reply) {
-        self.count(input, got == expected, || {
+        self.count(input, expected, got == expected, || {
             format!("{input}: expected {expected}, got {got}")
         });
     }
 
-    /// Counts a call that was compared elsewhere. Where inputs are no numbers, `input` is the
-    /// call's place among all.
-    pub fn count(&mut self, input: u64, agrees: bool, text: impl FnOnce() -> String) {
+    /// Counts a call and compares what it gave. `same` tells whether all that was lent is as
+    /// expected, and `text` what went in; as its input stands its place among all calls.
+    pub fn compare(
+        &mut self,
+        expected: &Reply,
+        got: &Reply,
+        same: bool,
+        text: impl FnOnce() -> String,
+    ) {
+        let call = self.calls;
+        self.count(call, expected, same && got == expected, || {
+            format!("call {call}, {}: expected {expected}, got {got}", text())
+        });
+    }
+
+    fn count(&mut self, input: u64, expected: &Reply, agrees: bool, text: impl FnOnce() -> String) {
         self.calls += 1;
+        *self.replies.entry(expected.number).or_default() += 1;
         if !agrees {
             self.disagree(input, text);
         }
+    }
+
+    /// Keeps a disagreement of the Rust with what is expected, about the next call.
+    pub fn disagree_at_call(&mut self, what: &str, text: impl FnOnce() -> String) {
+        self.disagree(self.calls, || format!("{}: {what}", text()));
+    }
+
+    /// Counts what the Rust does where the library refuses.
+    pub fn class(&mut self, number: u32, does: &'static str, text: impl FnOnce() -> String) {
+        let class = self.classes.entry((number, does));
+        class.or_insert_with(|| (0, text())).0 += 1;
+    }
+
+    /// Adds what was reached, and a disagreement for each of these replies that was not.
+    pub fn reached(&mut self, numbers: &[u32]) {
+        for number in numbers {
+            if !self.replies.contains_key(number) {
+                self.disagree(u64::MAX, || format!("{number} was never reached"));
+            }
+        }
+        self.note(format!("replies by number: {}", text_of(&self.replies)));
+        for ((number, does), (cases, first)) in std::mem::take(&mut self.classes) {
+            self.note(format!(
+                "{number} where the Rust {does}: {cases}, first {first}"
+            ));
+        }
+    }
+
+    /// How many calls should give 0 and each refusal.
+    pub fn replies(&self) -> &BTreeMap<u32, u64> {
+        &self.replies
     }
 
     /// Keeps a disagreement.
@@ -83,6 +137,15 @@ impl fmt::Display for Report {
         }
         Ok(())
     }
+}
+
+/// Numbers, each with its count.
+pub fn text_of(counts: &BTreeMap<u32, u64>) -> String {
+    let counts: Vec<String> = counts
+        .iter()
+        .map(|(number, count)| format!("{number}: {count}"))
+        .collect();
+    counts.join(", ")
 }
 
 /// Tells of the first place at which two tables differ.

@@ -18,7 +18,7 @@ use crate::{form::Form, record::Recorder, report::Report, Plan};
 use common::Random;
 use kinds::KINDS;
 use model::After;
-use mopsienna_sys::{sized::NO_PAGE_SIZE, Reply, Save};
+use mopsienna_sys::{sized::NO_PAGE_SIZE, Save};
 use nomt_plain::{Finished, List, Rust, State};
 use std::{collections::BTreeMap, io};
 
@@ -33,9 +33,11 @@ pub const HAND_OUT: usize = 0;
 pub const FINISH: usize = 1;
 pub const READ_BACK: usize = 2;
 
+const OPERATIONS: [&str; 3] = ["hand_out", "finish", "read_list after a save"];
+
 /// Compares the library's `hand_out` and `finish`, and its `read_list` of what they made.
 pub fn compare(plan: &Plan, library: &dyn Library) -> io::Result<[Report; 3]> {
-    let mut comparison = Comparison::new(library, &plan.recorder);
+    let mut comparison = Comparison::new(library, &plan.recorder, OPERATIONS);
     comparison.page_sizes();
     comparison.group = "document 01".into();
     fixed::each::<nomt_4096::Plain>(&mut comparison, Form::Fixed)?;
@@ -62,7 +64,7 @@ pub fn compare(plan: &Plan, library: &dyn Library) -> io::Result<[Report; 3]> {
         let few = long % 2 == 0;
         history::long::<nomt_4096::Plain>(&mut comparison, Form::Fixed, few, &mut random)?;
     }
-    Ok(comparison.finish())
+    Ok(comparison.finish(REPLIES))
 }
 
 /// How many histories go over lists of more than 1,022 pages.
@@ -77,13 +79,9 @@ fn long_histories(plan: &Plan) -> u64 {
 pub struct Comparison<'a> {
     library: &'a dyn Library,
     recorder: &'a Recorder,
-    reports: [Report; 3],
-    /// How many calls of each report were made.
-    calls: [u64; 3],
-    /// How many calls of each report should give 0 and each refusal.
-    replies: [BTreeMap<u32, u64>; 3],
+    pub reports: [Report; 3],
     /// What the saves at hand are called.
-    group: String,
+    pub group: String,
     /// By group: how many saves, and how many were of each kind that has a way of its own through
     /// the finish.
     kinds: BTreeMap<String, (u64, [u64; KINDS.len()])>,
@@ -105,13 +103,15 @@ const REPLIES: [&[u32]; 3] = [
 ];
 
 impl<'a> Comparison<'a> {
-    fn new(library: &'a dyn Library, recorder: &'a Recorder) -> Comparison<'a> {
+    pub fn new(
+        library: &'a dyn Library,
+        recorder: &'a Recorder,
+        operations: [&'static str; 3],
+    ) -> Comparison<'a> {
         Comparison {
             library,
             recorder,
-            reports: ["hand_out", "finish", "read_list after a save"].map(Report::new),
-            calls: [0; 3],
-            replies: Default::default(),
+            reports: operations.map(Report::new),
             group: String::new(),
             kinds: BTreeMap::new(),
         }
@@ -141,38 +141,11 @@ impl<'a> Comparison<'a> {
         states::each::<R>(self, form, seed, saves)
     }
 
-    /// Counts a call and compares what it gave. `same` tells whether all that was lent is as
-    /// expected.
-    fn count(
-        &mut self,
-        report: usize,
-        expected: &Reply,
-        got: &Reply,
-        same: bool,
-        text: impl FnOnce() -> String,
-    ) {
-        let call = self.calls[report];
-        self.calls[report] += 1;
-        *self.replies[report].entry(expected.number).or_default() += 1;
-        self.reports[report].count(call, same && got == expected, || {
-            format!("call {call}, {}: expected {expected}, got {got}", text())
-        });
-    }
-
-    /// Adds what was reached, and a disagreement for each number and each kind that was not.
-    fn finish(mut self) -> [Report; 3] {
-        for (report, numbers) in REPLIES.into_iter().enumerate() {
-            for number in numbers {
-                if !self.replies[report].contains_key(number) {
-                    self.reports[report]
-                        .disagree(u64::MAX, || format!("{number} was never reached"));
-                }
-            }
-            let replies: Vec<String> = self.replies[report]
-                .iter()
-                .map(|(number, calls)| format!("{number}: {calls}"))
-                .collect();
-            self.reports[report].note(format!("replies by number: {}", replies.join(", ")));
+    /// Adds what was reached, and a disagreement for each of these replies and each kind that was
+    /// not.
+    pub fn finish(mut self, replies: [&[u32]; 3]) -> [Report; 3] {
+        for (report, numbers) in self.reports.iter_mut().zip(replies) {
+            report.reached(numbers);
         }
         for (at, kind) in KINDS.into_iter().enumerate() {
             if self.kinds.values().all(|(_, kinds)| kinds[at] == 0) {

@@ -64,6 +64,7 @@ pub fn compare(plan: &Plan, library: impl Fn(u64) -> Reply) -> Report {
     if !plan.short {
         (1..=MAX_SIZE).for_each(&mut check);
     }
+    report.reached(&[0, SIZE_REFUSED]);
     report
 }
 

@@ -22,7 +22,7 @@ mod written;
 
 use crate::{form::Form, record::Recorder, report::Report, Plan};
 use common::Random;
-use mopsienna_sys::{sized::NO_PAGE_SIZE, Reply};
+use mopsienna_sys::sized::NO_PAGE_SIZE;
 use nomt_plain::Values;
 use std::{collections::BTreeMap, io};
 
@@ -67,13 +67,13 @@ pub fn compare(plan: &Plan, library: &dyn Library) -> io::Result<[Report; 6]> {
     };
     let cases = plan.count / RANDOM_SHARE;
     let seed = plan.seed;
-    let mut comparison = Comparison::new(library, &plan.recorder);
+    let mut comparison = Comparison::new(library, &plan.recorder, OPERATIONS);
     comparison.page_sizes();
     // libmopsienna comes first, so that the first case of a kind is at its page size.
     comparison.at::<nomt_4096::Plain>(Form::Fixed, extent, seed, cases / 10)?;
     comparison.small::<nomt_16::Plain>(16, extent, seed, cases)?;
     if extent == Extent::Least {
-        return Ok(comparison.finish());
+        return Ok(comparison.finish(REPLIES));
     }
     comparison.small::<nomt_20::Plain>(20, extent, seed, cases)?;
     comparison.small::<nomt_24::Plain>(24, extent, seed, cases)?;
@@ -86,23 +86,15 @@ pub fn compare(plan: &Plan, library: &dyn Library) -> io::Result<[Report; 6]> {
         largest::largest::<nomt_4096::Plain>(&mut comparison, Form::Fixed, &mut random)?;
         largest::one_more::<nomt_4096::Plain>(&mut comparison)?;
     }
-    Ok(comparison.finish())
+    Ok(comparison.finish(REPLIES))
 }
-
-/// By refusal and by what the Rust does: how many cases, and the first.
-type Classes = BTreeMap<(u32, &'static str), (u64, String)>;
 
 pub struct Comparison<'a> {
     library: &'a dyn Library,
     recorder: &'a Recorder,
-    reports: [Report; 6],
-    /// How many calls of each report were made.
-    calls: [u64; 6],
-    /// How many calls of each report should give 0 and each refusal.
-    replies: [BTreeMap<u32, u64>; 6],
-    classes: [Classes; 6],
+    pub reports: [Report; 6],
     /// What the cases at hand are called.
-    group: String,
+    pub group: String,
     /// By group: how many cases were read and deleted on both sides, and how many of them are a
     /// value that is read, and one that is deleted.
     groups: BTreeMap<String, [u64; 3]>,
@@ -140,14 +132,15 @@ const REPLIES: [&[u32]; 6] = [
 ];
 
 impl<'a> Comparison<'a> {
-    fn new(library: &'a dyn Library, recorder: &'a Recorder) -> Comparison<'a> {
+    pub fn new(
+        library: &'a dyn Library,
+        recorder: &'a Recorder,
+        operations: [&'static str; 6],
+    ) -> Comparison<'a> {
         Comparison {
             library,
             recorder,
-            reports: OPERATIONS.map(Report::new),
-            calls: [0; 6],
-            replies: Default::default(),
-            classes: Default::default(),
+            reports: operations.map(Report::new),
             group: String::new(),
             groups: BTreeMap::new(),
         }
@@ -194,61 +187,10 @@ impl<'a> Comparison<'a> {
         self.at::<R>(Form::Sized(size), extent, seed, cases)
     }
 
-    /// Counts a call and compares what it gave. `same` tells whether all that was lent is as
-    /// expected.
-    fn count(
-        &mut self,
-        report: usize,
-        expected: &Reply,
-        got: &Reply,
-        same: bool,
-        text: impl FnOnce() -> String,
-    ) {
-        let call = self.calls[report];
-        self.calls[report] += 1;
-        *self.replies[report].entry(expected.number).or_default() += 1;
-        self.reports[report].count(call, same && got == expected, || {
-            format!("call {call}, {}: expected {expected}, got {got}", text())
-        });
-    }
-
-    /// Keeps a disagreement of the Rust with the model.
-    fn disagree(&mut self, report: usize, what: &str, text: impl FnOnce() -> String) {
-        self.reports[report].disagree(self.calls[report], || format!("{}: {what}", text()));
-    }
-
-    /// Counts what the Rust does where the library refuses.
-    fn class(
-        &mut self,
-        report: usize,
-        number: u32,
-        does: &'static str,
-        text: impl FnOnce() -> String,
-    ) {
-        let class = self.classes[report].entry((number, does));
-        class.or_insert_with(|| (0, text())).0 += 1;
-    }
-
-    /// Adds what was reached, and a disagreement for each number that was not.
-    fn finish(mut self) -> [Report; 6] {
-        for (report, numbers) in REPLIES.into_iter().enumerate() {
-            let replies = &self.replies[report];
-            for number in numbers {
-                if !replies.contains_key(number) {
-                    self.reports[report]
-                        .disagree(u64::MAX, || format!("{number} was never reached"));
-                }
-            }
-            let replies: Vec<String> = replies
-                .iter()
-                .map(|(number, calls)| format!("{number}: {calls}"))
-                .collect();
-            self.reports[report].note(format!("replies by number: {}", replies.join(", ")));
-            for ((number, does), (cases, first)) in &self.classes[report] {
-                self.reports[report].note(format!(
-                    "{number} where the Rust {does}: {cases}, first {first}"
-                ));
-            }
+    /// Adds what was reached, and a disagreement for each of these replies that was not.
+    pub fn finish(mut self, replies: [&[u32]; 6]) -> [Report; 6] {
+        for (report, numbers) in self.reports.iter_mut().zip(replies) {
+            report.reached(numbers);
         }
         self.reports[READ].note("cases on both sides: all; read; deleted".into());
         for (group, [cases, read, deleted]) in &self.groups {

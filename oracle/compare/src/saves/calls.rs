@@ -42,7 +42,7 @@ impl Comparison<'_> {
             let refused = Reply::refusal(NO_PAGE_SIZE, &[]);
             let text = || format!("page size {size}");
             let reply = self.library.hand_out(form, &save, &[], &[]);
-            self.count(HAND_OUT, &refused, &reply, true, text);
+            self.reports[HAND_OUT].compare(&refused, &reply, true, text);
             let before = lent(
                 &vec![],
                 Room {
@@ -54,17 +54,15 @@ impl Comparison<'_> {
             );
             let mut after = before.clone();
             let reply = self.library.finish(form, &save, &[5], &mut after);
-            self.count(FINISH, &refused, &reply, before == after, text);
+            self.reports[FINISH].compare(&refused, &reply, before == after, text);
             let (pages, entries) = (&mut after.pages, &mut after.entries);
             let reply = self.library.read_list(form, &[0; 64], 0, pages, entries);
-            self.count(READ_BACK, &refused, &reply, before == after, text);
+            self.reports[READ_BACK].compare(&refused, &reply, before == after, text);
         }
         for size in [16, 65_536] {
             let reply = self.library.hand_out(Form::Sized(size), &save, &[], &[]);
             let answer = Reply::answer(&[30, 1, 8192]);
-            self.count(HAND_OUT, &answer, &reply, true, || {
-                format!("page size {size}")
-            });
+            self.reports[HAND_OUT].compare(&answer, &reply, true, || format!("page size {size}"));
         }
     }
 
@@ -101,7 +99,7 @@ impl Comparison<'_> {
             },
         );
         let reply = self.library.hand_out(form, save, pages, entries);
-        self.count(HAND_OUT, &expected, &reply, true, || {
+        self.reports[HAND_OUT].compare(&expected, &reply, true, || {
             format!(
                 "page size {}, {save:?}, tables of {} and {}, the last entries {:?}",
                 R::PAGE_SIZE,
@@ -233,7 +231,7 @@ impl Comparison<'_> {
         self.record_finish::<R>(save, list, freed, &got, &expected, &expected_lent, after);
         let reply = self.library.finish(form, save, freed, &mut got);
         let same = got == expected_lent;
-        self.count(FINISH, &expected, &reply, same, || {
+        self.reports[FINISH].compare(&expected, &reply, same, || {
             format!(
                 "page size {}, {save:?}, list {}, freed {}, {room:?}{}{}{}{}",
                 R::PAGE_SIZE,
@@ -340,7 +338,7 @@ impl Comparison<'_> {
                     .places(&expected.entries, entries)
             });
         let same = got == expected && rust == held;
-        self.count(READ_BACK, &answer, &reply, same, || {
+        self.reports[READ_BACK].compare(&answer, &reply, same, || {
             format!(
                 "page size {}, list {}{}{}{}",
                 R::PAGE_SIZE,

@@ -81,7 +81,7 @@ fn one<R: Rust>(comparison: &mut Comparison, form: Form, random: &mut Random) ->
             });
         let mut got = tables.clone();
         let reply = comparison.library.finish(form, &save, &freed, &mut got);
-        comparison.count(FINISH, &refusal, &reply, got == tables, || {
+        comparison.reports[FINISH].compare(&refusal, &reply, got == tables, || {
             let size = R::PAGE_SIZE;
             format!(
                 "page size {size}, {save:?}, {room:?}, {} freed",

@@ -31,7 +31,7 @@ impl Comparison<'_> {
             let reply = self
                 .library
                 .write_value_page(form, &[7], &[1], 0, &mut page);
-            self.count(WRITE, &refused, &reply, page == bytes, text);
+            self.reports[WRITE].compare(&refused, &reply, page == bytes, text);
 
             let (cell, store) = (&[0; 44], &[0; 64]);
             let (mut table, mut value) = (numbers.clone(), bytes.clone());
@@ -39,14 +39,14 @@ impl Comparison<'_> {
                 .library
                 .read_value(form, cell, store, &mut table, &mut value);
             let same = table == numbers && value == bytes;
-            self.count(READ, &refused, &reply, same, text);
+            self.reports[READ].compare(&refused, &reply, same, text);
 
             let mut table = numbers.clone();
             let reply = self.library.delete_value(form, cell, store, &mut table);
-            self.count(DELETE, &refused, &reply, table == numbers, text);
+            self.reports[DELETE].compare(&refused, &reply, table == numbers, text);
 
             let reply = self.library.lookup(form, &[], &[], store, 0);
-            self.count(LOOKUP, &refused, &reply, true, text);
+            self.reports[LOOKUP].compare(&refused, &reply, true, text);
         }
     }
 
@@ -89,7 +89,7 @@ impl Comparison<'_> {
             .library
             .write_value_page(form, value, numbers, index, &mut got);
         let same = got == expected;
-        self.count(WRITE, &expected_reply, &reply, same, || {
+        self.reports[WRITE].compare(&expected_reply, &reply, same, || {
             format!(
                 "page size {}, size {}, {}, index {index}, buffer of {length}{}",
                 R::PAGE_SIZE,
@@ -116,7 +116,7 @@ impl Comparison<'_> {
                 Some(_) => "writes it",
                 None => "panics",
             };
-            self.class(ENCODE, model::SIZE, does, text);
+            self.reports[ENCODE].class(model::SIZE, does, text);
         }
         let mut got = untouched_bytes(length);
         let mut expected = got.clone();
@@ -126,7 +126,7 @@ impl Comparison<'_> {
                 expected[..cell.len()].copy_from_slice(&cell);
                 Reply::answer(&[])
             }
-            (None, None) => return self.disagree(ENCODE, "the Rust panics", text),
+            (None, None) => return self.reports[ENCODE].disagree_at_call("the Rust panics", text),
         };
         let written = match expected_reply.number {
             0 => model::CELL_START + 4 * numbers.len(),
@@ -145,7 +145,7 @@ impl Comparison<'_> {
             });
         let reply = self.library.encode_cell(size, hash, numbers, &mut got);
         let same = got == expected;
-        self.count(ENCODE, &expected_reply, &reply, same, || {
+        self.reports[ENCODE].compare(&expected_reply, &reply, same, || {
             format!("{}{}", text(), difference("cell", &expected, &got))
         });
     }
@@ -166,13 +166,15 @@ impl Comparison<'_> {
                 expected = rust.hash;
                 Reply::answer(&[rust.size, rust.numbers.len() as u64])
             }
-            (Ok(_), _) => return self.disagree(DECODE, "the Rust reads another cell", text),
+            (Ok(_), _) => {
+                return self.reports[DECODE].disagree_at_call("the Rust reads another cell", text)
+            }
             (Err(refusal), rust) => {
                 let does = match rust {
                     Some(_) => "reads it",
                     None => "panics",
                 };
-                self.class(DECODE, refusal.number, does, text);
+                self.reports[DECODE].class(refusal.number, does, text);
                 refusal
             }
         };
@@ -186,7 +188,7 @@ impl Comparison<'_> {
         });
         let mut hash = UNTOUCHED_HASH;
         let reply = self.library.decode_cell(cell, &mut hash);
-        self.count(DECODE, &expected_reply, &reply, hash == expected, || {
+        self.reports[DECODE].compare(&expected_reply, &reply, hash == expected, || {
             format!("{}{}", text(), difference("hash", &expected, &hash))
         });
     }

@@ -36,7 +36,7 @@ pub fn each<R: Values>(
         let case = Case::laid_out::<R>(length, size, cell, laid, random)?;
         let read = model::read(R::PAGE_SIZE, &case.cell, case.store.bytes());
         if read.is_ok_and(|walked| walked.reply.number != 0) {
-            comparison.disagree(READ, "the chain is none", || case.to_string());
+            comparison.reports[READ].disagree_at_call("the chain is none", || case.to_string());
         }
         comparison.check::<R>(form, &case)?;
     }

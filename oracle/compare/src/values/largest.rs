@@ -39,10 +39,10 @@ pub fn largest<R: Values>(
 
     let text = || format!("page size {}, the largest value", R::PAGE_SIZE);
     if R::read_value(&cell, store.file())? != value {
-        comparison.disagree(READ, "the Rust reads something else", text);
+        comparison.reports[READ].disagree_at_call("the Rust reads something else", text);
     }
     if R::delete_value(&cell, store.file())? != numbers {
-        comparison.disagree(DELETE, "the Rust deletes something else", text);
+        comparison.reports[DELETE].disagree_at_call("the Rust deletes something else", text);
     }
     let mut table = vec![0; total];
     let mut got = vec![0; MAX_SIZE];
@@ -50,11 +50,11 @@ pub fn largest<R: Values>(
     let reply = library.read_value(form, &cell, store.bytes(), &mut table, &mut got);
     let expected = Reply::answer(&[MAX_SIZE as u64, total as u64]);
     let same = got == value && table == numbers;
-    comparison.count(READ, &expected, &reply, same, text);
+    comparison.reports[READ].compare(&expected, &reply, same, text);
     table.fill(0);
     let reply = library.delete_value(form, &cell, store.bytes(), &mut table);
     let expected = Reply::answer(&[total as u64]);
-    comparison.count(DELETE, &expected, &reply, table == numbers, text);
+    comparison.reports[DELETE].compare(&expected, &reply, table == numbers, text);
     Ok(())
 }
 
@@ -69,7 +69,7 @@ pub fn one_more<R: Values>(comparison: &mut Comparison) -> io::Result<()> {
         Some(_) => "writes it",
         None => "panics",
     };
-    comparison.class(WRITE, model::SIZE, does, || {
+    comparison.reports[WRITE].class(model::SIZE, does, || {
         format!("page size {}, size {size}", R::PAGE_SIZE)
     });
     Ok(())

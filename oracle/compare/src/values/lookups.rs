@@ -109,7 +109,7 @@ impl Comparison<'_> {
         let reply = self
             .library
             .lookup(form, numbers, &bytes, store.bytes(), page);
-        self.count(LOOKUP, &expected, &reply, true, text);
+        self.reports[LOOKUP].compare(&expected, &reply, true, text);
         Ok(())
     }
 
@@ -126,12 +126,12 @@ impl Comparison<'_> {
                 Some(_) => "reads it",
                 None => "panics",
             };
-            return self.class(LOOKUP, model::PAST_STORE, does, text);
+            return self.reports[LOOKUP].class(model::PAST_STORE, does, text);
         }
         let at = expected.out[1] as usize;
         let bytes = &store.bytes()[at..][..R::PAGE_SIZE];
         if query != Some(bytes) {
-            self.disagree(LOOKUP, "the Rust reads other bytes", text);
+            self.reports[LOOKUP].disagree_at_call("the Rust reads other bytes", text);
         }
     }
 }

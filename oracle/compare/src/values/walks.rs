@@ -54,7 +54,7 @@ impl Comparison<'_> {
                 Some(_) => "reads it",
                 None => "panics",
             };
-            self.class(READ, refusal.number, does, || case.to_string());
+            self.reports[READ].class(refusal.number, does, || case.to_string());
             return Ok(false);
         }
         let steps = unless_panic(|| R::read_in_steps(&case.cell, file)).transpose()?;
@@ -63,7 +63,8 @@ impl Comparison<'_> {
                 && steps.is_some_and(|steps| steps == (value, walked.numbers.clone()))
         });
         if !agrees {
-            self.disagree(READ, "the Rust reads something else", || case.to_string());
+            self.reports[READ]
+                .disagree_at_call("the Rust reads something else", || case.to_string());
         }
         Ok(true)
     }
@@ -81,16 +82,15 @@ impl Comparison<'_> {
                 Some(_) => "deletes it",
                 None => "panics",
             };
-            self.class(DELETE, refusal.number, does, || case.to_string());
+            self.reports[DELETE].class(refusal.number, does, || case.to_string());
             return Ok(false);
         }
         let agrees = model
             .as_ref()
             .is_ok_and(|walked| freed.as_ref() == Some(&walked.numbers));
         if !agrees {
-            self.disagree(DELETE, "the Rust deletes something else", || {
-                case.to_string()
-            });
+            self.reports[DELETE]
+                .disagree_at_call("the Rust deletes something else", || case.to_string());
         }
         Ok(true)
     }
@@ -146,7 +146,7 @@ impl Comparison<'_> {
             .library
             .read_value(form, &case.cell, store, &mut table, &mut value);
         let same = table == expected_table && value == expected_value;
-        self.count(READ, &expected, &reply, same, || {
+        self.reports[READ].compare(&expected, &reply, same, || {
             format!(
                 "{case}, room for {numbers} numbers and {bytes} bytes{}{}",
                 difference("numbers", &expected_table, &table),
@@ -188,7 +188,7 @@ impl Comparison<'_> {
             .library
             .delete_value(form, &case.cell, store, &mut table);
         let same = table == expected_table;
-        self.count(DELETE, &expected, &reply, same, || {
+        self.reports[DELETE].compare(&expected, &reply, same, || {
             format!(
                 "{case}, room for {numbers} numbers{}",
                 difference("numbers", &expected_table, &table),

@@ -100,13 +100,13 @@ fn write<R: Values>(
     random.fill(&mut value);
     let text = || format!("page size {}, size {size}", R::PAGE_SIZE);
     let Some(chunked) = unless_panic(|| R::chunk(&value, numbers)).transpose()? else {
-        comparison.disagree(WRITE, "the Rust panics", text);
+        comparison.reports[WRITE].disagree_at_call("the Rust panics", text);
         return Ok(());
     };
     let cell = &numbers[..numbers.len().min(CELL_NUMBERS)];
     let at = chunked.pages.iter().map(|(page, _)| page);
     if chunked.total != numbers.len() || chunked.cell != cell || !at.eq(numbers) {
-        comparison.disagree(WRITE, "the Rust takes other pages", text);
+        comparison.reports[WRITE].disagree_at_call("the Rust takes other pages", text);
         return Ok(());
     }
 
@@ -175,5 +175,5 @@ fn no_value<R: Values>(comparison: &mut Comparison, form: Form) {
         Some(_) => "writes it",
         None => "panics",
     };
-    comparison.class(WRITE, model::SIZE, does, text);
+    comparison.reports[WRITE].class(model::SIZE, does, text);
 }
