@@ -9,22 +9,13 @@ use crate::{
         ops::overflow::{self, AsyncReader},
     },
     io::{read_page, IoHandle, IoKind, PagePool},
-    plain::{numbers, Plain},
+    plain::{numbers, Plain, Save},
 };
-use nomt_plain::{Cell, Chunked, Rust, State, Values};
+use nomt_plain::{Cell, Chunked, Values};
 use std::{fs::File, io, sync::Arc};
 
 impl Values for Plain {
-    fn chunk(value: &[u8], wanted: &[u32]) -> io::Result<Chunked> {
-        // Numbers are handed out from the end of the list.
-        let entries: Vec<u32> = wanted.iter().rev().copied().collect();
-        let list_pages = entries.chunks(Plain::CAPACITY);
-        let store = Plain::open(&State {
-            bump: 1,
-            length: 1,
-            list: list_pages.map(|entries| (0, entries.to_vec())).collect(),
-        })?;
-        let save = store.start(0);
+    fn chunk_in(save: &Save, value: &[u8]) -> io::Result<Chunked> {
         let io = IoHandle::default();
         let (cell, total) = overflow::chunk(value, &save.0, &PagePool, &io)?;
         Ok(Chunked {

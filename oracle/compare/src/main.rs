@@ -5,6 +5,7 @@
 
 mod form;
 mod grow;
+mod histories;
 mod lists;
 mod panics;
 mod record;
@@ -25,8 +26,8 @@ const USAGE: &str = "\
 usage: compare [--short] [--seed N] [--count N] [--self-test] [--record FILE]
   --short      some seconds instead of some minutes
   --seed N     the seed of the random cases
-  --count N    random cases for each operation; a twentieth of that for lists, a tenth for saves and
-               a fiftieth for values
+  --count N    random cases for each operation; a twentieth of that for lists, a tenth for saves, a
+               fiftieth for values and a hundredth for saves in histories
   --self-test  see whether wrong replies are caught, over the short form
   --record FILE  write some of the calls with what is expected of them, over the short form";
 
@@ -75,19 +76,24 @@ fn main() -> ExitCode {
 /// Compares every operation. Tells whether all agree.
 fn compare(plan: &Plan) -> io::Result<bool> {
     println!(
-        "seed {}, {} random cases each, {} of lists, {} of saves, {} of values",
+        "seed {}, {} random cases each, {} of lists, {} of saves, {} of values, {} of saves in histories",
         plan.seed,
         plan.count,
         plan.count / lists::RANDOM_SHARE,
         plan.count / saves::RANDOM_SHARE,
-        plan.count / values::RANDOM_SHARE
+        plan.count / values::RANDOM_SHARE,
+        plan.count / histories::RANDOM_SHARE
     );
-    let operations: [&dyn Fn() -> io::Result<Vec<report::Report>>; 5] = [
+    let operations: [&dyn Fn() -> io::Result<Vec<report::Report>>; 6] = [
         &|| Ok(vec![grow::compare(plan, mopsienna_sys::grow)?]),
         &|| Ok(vec![totals::compare(plan, mopsienna_sys::total)]),
         &|| Ok(vec![lists::compare(plan, mopsienna_sys::read_list)?]),
         &|| Ok(saves::compare(plan, &saves::Linked)?.into()),
         &|| Ok(values::compare(plan, &values::Linked)?.into()),
+        &|| {
+            let (saves, values) = histories::compare(plan, &saves::Linked, &values::Linked)?;
+            Ok(saves.into_iter().chain(values).collect())
+        },
     ];
     let mut agreed = true;
     let mut reached = BTreeMap::new();

@@ -9,9 +9,9 @@ mod calls;
 mod fixed;
 mod history;
 mod kinds;
-mod lent;
+pub mod lent;
 mod library;
-mod model;
+pub mod model;
 mod states;
 
 use crate::{form::Form, record::Recorder, report::Report, Plan};
@@ -33,7 +33,7 @@ pub const HAND_OUT: usize = 0;
 pub const FINISH: usize = 1;
 pub const READ_BACK: usize = 2;
 
-const OPERATIONS: [&str; 3] = ["hand_out", "finish", "read_list after a save"];
+pub const OPERATIONS: [&str; 3] = ["hand_out", "finish", "read_list after a save"];
 
 /// Compares the library's `hand_out` and `finish`, and its `read_list` of what they made.
 pub fn compare(plan: &Plan, library: &dyn Library) -> io::Result<[Report; 3]> {
@@ -163,7 +163,7 @@ impl<'a> Comparison<'a> {
 }
 
 /// What the Rust's finish gave, with the state that the store has after it.
-fn after<R: Rust>(store: &R, finished: Finished) -> After {
+pub fn after<R: Rust>(store: &R, finished: Finished) -> After {
     let state = store.state();
     assert_eq!(state.bump, finished.bump);
     After {
@@ -174,7 +174,7 @@ fn after<R: Rust>(store: &R, finished: Finished) -> After {
 }
 
 /// A save of a store in this state.
-fn open_save(state: &State, count: u64) -> Save {
+pub fn open_save(state: &State, count: u64) -> Save {
     let (pages, entries) = model::size(&state.list);
     Save {
         bump: state.bump,

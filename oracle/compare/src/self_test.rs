@@ -4,11 +4,11 @@
 mod changed;
 
 use crate::{
-    grow, lists,
+    grow, histories, lists,
     report::Report,
     saves::{self, FINISH, HAND_OUT, READ_BACK},
     totals,
-    values::{self, DECODE, DELETE, ENCODE, LOOKUP, OPERATIONS, READ, WRITE},
+    values::{self, DECODE, DELETE, ENCODE, LOOKUP, READ, WRITE},
     Plan,
 };
 use changed::Changed;
@@ -56,27 +56,43 @@ pub fn run(plan: &Plan) -> io::Result<bool> {
             record("read_list", call, part, &report);
         }
     }
-    for (operation, name, parts) in [
-        (HAND_OUT, "hand_out", PARTS),
-        (FINISH, "finish", PARTS + LENT_PARTS),
-        (READ_BACK, "read_list after a save", PARTS + TABLE_PARTS),
-    ] {
-        for call in save_calls(plan, operation)?.into_values() {
-            for part in 0..parts {
-                let changed = Changed::new(operation, Some((call, part)));
-                let report = &saves::compare(plan, &changed)?[operation];
-                record(name, call, part, report);
-            }
-        }
+    for (operation, parts) in SAVE_PARTS {
+        each_part(
+            operation,
+            saves::OPERATIONS[operation],
+            parts.clone(),
+            &mut record,
+            |changed| Ok(at(operation, saves::compare(plan, changed)?)),
+        )?;
+        each_part(
+            operation,
+            histories::SAVES[operation],
+            parts,
+            &mut record,
+            |changed| {
+                let (saves, _) = histories::compare(plan, changed, &values::Linked)?;
+                Ok(at(operation, saves))
+            },
+        )?;
     }
     for (operation, parts) in VALUE_PARTS {
-        for call in value_calls(plan, operation)?.into_values() {
-            for part in parts.clone() {
-                let changed = Changed::new(operation, Some((call, part)));
-                let report = &values::compare(plan, &changed)?[operation];
-                record(OPERATIONS[operation], call, part, report);
-            }
-        }
+        each_part(
+            operation,
+            values::OPERATIONS[operation],
+            parts.clone(),
+            &mut record,
+            |changed| Ok(at(operation, values::compare(plan, changed)?)),
+        )?;
+        each_part(
+            operation,
+            histories::VALUES[operation],
+            parts,
+            &mut record,
+            |changed| {
+                let (_, values) = histories::compare(plan, &saves::Linked, changed)?;
+                Ok(at(operation, values))
+            },
+        )?;
     }
 
     println!("self-test: {changes} changes, {missed} not caught");
@@ -101,14 +117,13 @@ fn list_calls(plan: &Plan) -> io::Result<BTreeMap<u32, u64>> {
     Ok(first.into_inner())
 }
 
-/// The parts of what is lent to a finish: the first and the last place of each.
-const LENT_PARTS: usize = 8;
-
-fn save_calls(plan: &Plan, operation: usize) -> io::Result<BTreeMap<u32, u64>> {
-    let saves = Changed::new(operation, None);
-    saves::compare(plan, &saves)?;
-    Ok(saves.first.into_inner())
-}
+/// The parts that are changed of each function of saves: of what is lent, the first and the last
+/// place of each.
+const SAVE_PARTS: [(usize, Range<usize>); 3] = [
+    (HAND_OUT, 0..PARTS),
+    (FINISH, 0..PARTS + 8),
+    (READ_BACK, 0..PARTS + TABLE_PARTS),
+];
 
 /// The parts that are changed of each function of values. Writing pages and cells gives a number
 /// alone; of what is lent, it is the first and the last place of each.
@@ -121,10 +136,30 @@ const VALUE_PARTS: [(usize, Range<usize>); 6] = [
     (LOOKUP, 0..PARTS),
 ];
 
-fn value_calls(plan: &Plan, operation: usize) -> io::Result<BTreeMap<u32, u64>> {
-    let values = Changed::new(operation, None);
-    values::compare(plan, &values)?;
-    Ok(values.first.into_inner())
+/// Finds the first call of an operation that gives each number, and makes the comparison with each
+/// part of these calls changed.
+fn each_part(
+    operation: usize,
+    name: &str,
+    parts: Range<usize>,
+    record: &mut impl FnMut(&str, u64, usize, &Report),
+    compare: impl Fn(&Changed) -> io::Result<Report>,
+) -> io::Result<()> {
+    let unchanged = Changed::new(operation, None);
+    compare(&unchanged)?;
+    for call in unchanged.first.into_inner().into_values() {
+        for part in parts.clone() {
+            let changed = Changed::new(operation, Some((call, part)));
+            record(name, call, part, &compare(&changed)?);
+        }
+    }
+    Ok(())
+}
+
+/// The operation's report.
+fn at<const N: usize>(operation: usize, reports: [Report; N]) -> Report {
+    // There is one for each operation.
+    reports.into_iter().nth(operation).unwrap()
 }
 
 fn compare_lists_changed(plan: &Plan, call: u64, part: usize) -> io::Result<Report> {

@@ -7,7 +7,7 @@
 //! is counted.
 
 mod calls;
-mod case;
+pub mod case;
 mod cells;
 mod chains;
 mod damage;
@@ -16,9 +16,9 @@ mod largest;
 mod lent;
 mod library;
 mod lookups;
-mod model;
+pub mod model;
 mod walks;
-mod written;
+pub mod written;
 
 use crate::{form::Form, record::Recorder, report::Report, Plan};
 use common::Random;

@@ -105,6 +105,24 @@ impl Case {
         Ok(case)
     }
 
+    /// A store that is written to elsewhere, without a cell.
+    pub fn of_store(page_size: usize, store: Store) -> Case {
+        Case {
+            length: store.bytes().len(),
+            store,
+            cell: vec![],
+            page_size,
+            text: String::new(),
+        }
+    }
+
+    /// Takes another cell, of a value that the text tells of.
+    pub fn look_at(&mut self, cell: &[u8], text: String) {
+        self.length = self.store.bytes().len();
+        self.cell = cell.to_vec();
+        self.text = text;
+    }
+
     /// A store without the value.
     fn empty(
         page_size: usize,

@@ -211,5 +211,6 @@ fn many<R: Values>(
     let numbers: Vec<u32> = (1..=pages as u32).collect();
     let length = (pages + 2) * R::PAGE_SIZE;
     let case = Case::written::<R>(length, size, &numbers, harms)?;
-    comparison.check::<R>(form, &case)
+    comparison.check::<R>(form, &case)?;
+    Ok(())
 }

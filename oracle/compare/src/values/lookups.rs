@@ -81,7 +81,7 @@ pub fn random<R: Values>(
 
 impl Comparison<'_> {
     /// Looking a page up, with so many bytes of pending pages.
-    fn lookup<R: Values>(
+    pub fn lookup<R: Values>(
         &mut self,
         form: Form,
         numbers: &[u32],

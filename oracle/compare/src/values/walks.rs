@@ -20,9 +20,16 @@ use std::io;
 const MOST_BYTES: usize = 1 << 23;
 const MOST_NUMBERS: usize = 1 << 18;
 
+/// The value, if it is read, and the numbers of its pages, if it is deleted.
+pub struct Found {
+    pub value: Option<Vec<u8>>,
+    pub freed: Option<Vec<u32>>,
+}
+
 impl Comparison<'_> {
-    /// Reads and deletes the value, with the room that is needed, with more and with less.
-    pub fn check<R: Values>(&mut self, form: Form, case: &Case) -> io::Result<()> {
+    /// Reads and deletes the value, with the room that is needed, with more and with less. Gives what
+    /// is to be found.
+    pub fn check<R: Values>(&mut self, form: Form, case: &Case) -> io::Result<Found> {
         let store = case.store.bytes();
         let read = model::read(R::PAGE_SIZE, &case.cell, store);
         let is_read = self.rust_reads::<R>(case, &read)?;
@@ -38,7 +45,11 @@ impl Comparison<'_> {
         group[0] += 1;
         group[1] += u64::from(is_read);
         group[2] += u64::from(is_deleted);
-        Ok(())
+        let walked = |model: Result<Walked, Reply>, is: bool| model.ok().filter(|_| is);
+        Ok(Found {
+            value: walked(read, is_read).map(|walked| walked.bytes),
+            freed: walked(deleted, is_deleted).map(|walked| walked.numbers),
+        })
     }
 
     /// The Rust's reading beside the model's. Tells whether the model reads the value.

@@ -7,7 +7,7 @@ use super::{
 };
 use crate::{form::Form, panics::unless_panic};
 use common::Random;
-use nomt_plain::Values;
+use nomt_plain::{Chunked, Values};
 use std::io;
 
 /// Values of sizes around every change of the total, up to some total, and of random sizes.
@@ -85,7 +85,8 @@ fn read_back<R: Values>(
     let numbers = distinct(pages, page_count, random);
     write::<R>(comparison, form, size, &numbers, random)?;
     let length = page_count * page + random.pick(&[0, 1, page - 1]);
-    comparison.check::<R>(form, &Case::written::<R>(length, size, &numbers, &[])?)
+    comparison.check::<R>(form, &Case::written::<R>(length, size, &numbers, &[])?)?;
+    Ok(())
 }
 
 /// Writes a value of this size to pages with these numbers, and its cell, on both sides.
@@ -103,27 +104,45 @@ fn write<R: Values>(
         comparison.reports[WRITE].disagree_at_call("the Rust panics", text);
         return Ok(());
     };
+    compare::<R>(comparison, form, &value, numbers, &chunked, random);
+    Ok(())
+}
+
+/// The library's pages and cell of a value beside those of the Rust. Gives the cell, unless the Rust
+/// takes other numbers.
+pub fn compare<R: Values>(
+    comparison: &mut Comparison,
+    form: Form,
+    value: &[u8],
+    numbers: &[u32],
+    chunked: &Chunked,
+    random: &mut Random,
+) -> Option<Vec<u8>> {
+    let size = value.len();
     let cell = &numbers[..numbers.len().min(CELL_NUMBERS)];
     let at = chunked.pages.iter().map(|(page, _)| page);
     if chunked.total != numbers.len() || chunked.cell != cell || !at.eq(numbers) {
-        comparison.reports[WRITE].disagree_at_call("the Rust takes other pages", text);
-        return Ok(());
+        comparison.reports[WRITE].disagree_at_call("the Rust takes other pages", || {
+            format!("page size {}, size {size}", R::PAGE_SIZE)
+        });
+        return None;
     }
 
     let page = R::PAGE_SIZE;
     for index in 0..numbers.len() as u64 {
         let length = random.pick(&[page, page, page + 1, page + 7, 2 * page]);
-        comparison.write::<R>(form, &value, numbers, index, length, &chunked.pages);
+        comparison.write::<R>(form, value, numbers, index, length, &chunked.pages);
     }
-    refused::<R>(comparison, form, &value, numbers, random);
+    refused::<R>(comparison, form, value, numbers, random);
 
     let hash = any_hash(random);
     let length = CELL_START + 4 * cell.len();
     for length in [length, length - 1, length + 1 + random.below(9) as usize] {
         comparison.encode::<R>(size as u64, &hash, cell, length);
     }
-    comparison.decode::<R>(&R::encode_cell(size as u64, hash, cell));
-    Ok(())
+    let cell = R::encode_cell(size as u64, hash, cell);
+    comparison.decode::<R>(&cell);
+    Some(cell)
 }
 
 /// Pages that are refused: indexes past the last, one number less and more, and short buffers.

@@ -1,6 +1,6 @@
 //! The Rust's values in plain numbers. What panics in the Rust panics here.
 
-use crate::Rust;
+use crate::{Rust, State};
 use std::{fs::File, io};
 
 /// A value's pages as the Rust writes them.
@@ -24,7 +24,20 @@ pub struct Cell {
 /// The Rust's values at one page size.
 pub trait Values: Rust {
     /// The pages of a value, from a store that hands out these numbers.
-    fn chunk(value: &[u8], numbers: &[u32]) -> io::Result<Chunked>;
+    fn chunk(value: &[u8], numbers: &[u32]) -> io::Result<Chunked> {
+        // Numbers are handed out from the end of the list.
+        let entries: Vec<u32> = numbers.iter().rev().copied().collect();
+        let list_pages = entries.chunks(Self::CAPACITY);
+        let store = Self::open(&State {
+            bump: 1,
+            length: 1,
+            list: list_pages.map(|entries| (0, entries.to_vec())).collect(),
+        })?;
+        Self::chunk_in(&store.start(0), value)
+    }
+
+    /// The pages of a value, with the next numbers of a save.
+    fn chunk_in(save: &Self::Save, value: &[u8]) -> io::Result<Chunked>;
 
     fn encode_cell(size: u64, hash: [u8; 32], numbers: &[u32]) -> Vec<u8>;
 
