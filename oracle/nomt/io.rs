@@ -8,16 +8,22 @@ pub use page_pool::PagePool;
 
 pub mod page_pool {
     use super::PAGE_SIZE;
+    use std::cell::Cell;
+
+    thread_local! {
+        /// What every byte of a new page is.
+        pub static FILLER: Cell<u8> = const { Cell::new(0) };
+    }
 
     pub type FatPage = Box<[u8; PAGE_SIZE]>;
 
-    /// Pages come from the heap, filled with zeros so that every byte of them is determined.
+    /// Pages come from the heap, filled so that every byte of them is determined.
     #[derive(Clone, Default)]
     pub struct PagePool;
 
     impl PagePool {
         pub fn alloc_fat_page(&self) -> FatPage {
-            Box::new([0; PAGE_SIZE])
+            Box::new([FILLER.get(); PAGE_SIZE])
         }
     }
 }

@@ -5,7 +5,7 @@ use crate::{
         probe::{self, free_list},
         PageNumber, Store, SyncAllocator, SyncFinisher,
     },
-    io::{PagePool, PAGE_SIZE},
+    io::{page_pool::FILLER, PagePool, PAGE_SIZE},
 };
 use nomt_plain::{Finished, Held, List, Rust, State};
 use std::{fs::File, io, sync::Arc};
@@ -70,6 +70,13 @@ impl Rust for Plain {
                 .map(|(page, bytes)| (page.0, bytes.to_vec()))
                 .collect(),
         })
+    }
+
+    fn with_filled_pages<T>(byte: u8, call: impl FnOnce() -> T) -> T {
+        let before = FILLER.replace(byte);
+        let result = call();
+        FILLER.set(before);
+        result
     }
 
     fn read(file: &File, head: u32) -> io::Result<Held> {

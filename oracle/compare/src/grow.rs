@@ -32,6 +32,9 @@ pub fn compare(plan: &Plan, library: impl Fn(u32) -> Reply) -> io::Result<Report
     let rust = Rust::new()?;
     let mut report = Report::new("grow");
     let mut check = |page: u32| -> io::Result<()> {
+        if page > LAST_PAGE {
+            report.class(PAST_LAST, rust.past_last(page)?, || format!("page {page}"));
+        }
         for expected in rust.expected(page)? {
             let rest = page % STEP;
             let at_a_step = rest < 2 || rest + 2 > STEP;
@@ -77,6 +80,15 @@ impl Rust {
         Ok(Rust {
             pool: PagePool,
             file: Arc::new(memory_file()?),
+        })
+    }
+
+    /// What the Rust does past the last page, where lengths wrap in its release build.
+    fn past_last(&self, page: u32) -> io::Result<&'static str> {
+        Ok(match self.length_after_allocate(page)? {
+            0 => "cuts the store to 0 pages",
+            8192 => "cuts the store to 8,192 pages",
+            _ => "gives it another length",
         })
     }
 

@@ -3,6 +3,7 @@
 //! Exits with 0 if they agree everywhere, 1 if they disagree, 2 if the comparison could not be
 //! made.
 
+mod differences;
 mod form;
 mod grow;
 mod histories;
@@ -98,7 +99,8 @@ fn compare(plan: &Plan) -> io::Result<bool> {
     let mut agreed = true;
     let mut reached = BTreeMap::new();
     for operation in operations {
-        for report in operation()? {
+        for mut report in operation()? {
+            differences::check(plan, &mut report);
             println!("{report}");
             agreed &= report.agrees();
             for (number, calls) in report.replies() {

@@ -14,7 +14,7 @@ pub struct Report {
     calls: u64,
     /// How many calls should give 0 and each refusal.
     replies: BTreeMap<u32, u64>,
-    /// By refusal and by what the Rust does there: how many cases, and the first.
+    /// By reply and by what the Rust does there: how many cases, and the first.
     classes: BTreeMap<(u32, &'static str), (u64, String)>,
     disagreements: u64,
     /// Those with the smallest inputs, each with the text that tells of it.
@@ -70,7 +70,7 @@ impl Report {
         self.disagree(self.calls, || format!("{}: {what}", text()));
     }
 
-    /// Counts what the Rust does where the library refuses.
+    /// Counts what the Rust does where the library gives this reply and it does something else.
     pub fn class(&mut self, number: u32, does: &'static str, text: impl FnOnce() -> String) {
         let class = self.classes.entry((number, does));
         class.or_insert_with(|| (0, text())).0 += 1;
@@ -84,10 +84,28 @@ impl Report {
             }
         }
         self.note(format!("replies by number: {}", text_of(&self.replies)));
-        for ((number, does), (cases, first)) in std::mem::take(&mut self.classes) {
-            self.note(format!(
-                "{number} where the Rust {does}: {cases}, first {first}"
-            ));
+        for ((number, does), (cases, first)) in &self.classes {
+            let text = format!("{number} where the Rust {does}: {cases}, first {first}");
+            self.notes.push(text);
+        }
+    }
+
+    /// What was counted of the Rust has to be just this.
+    pub fn compare_differences(&mut self, known: &[(u32, &str)]) {
+        for (number, does) in known {
+            if !self.classes.contains_key(&(*number, *does)) {
+                self.disagree(u64::MAX, || {
+                    format!("{number} where the Rust {does}: never seen")
+                });
+            }
+        }
+        let seen: Vec<_> = self.classes.keys().copied().collect();
+        for (number, does) in seen {
+            if !known.contains(&(number, does)) {
+                self.disagree(u64::MAX, || {
+                    format!("{number} where the Rust {does}: not among the differences")
+                });
+            }
         }
     }
 
@@ -112,6 +130,10 @@ impl Report {
     /// Adds a line to what is shown.
     pub fn note(&mut self, text: String) {
         self.notes.push(text);
+    }
+
+    pub fn operation(&self) -> &'static str {
+        self.operation
     }
 
     pub fn agrees(&self) -> bool {

@@ -6,6 +6,7 @@
 //! made are read back by both sides.
 
 mod calls;
+mod differences;
 mod fixed;
 mod history;
 mod kinds;
@@ -42,6 +43,7 @@ pub fn compare(plan: &Plan, library: &dyn Library) -> io::Result<[Report; 3]> {
     comparison.group = "document 01".into();
     fixed::each::<nomt_4096::Plain>(&mut comparison, Form::Fixed)?;
     fixed::each::<nomt_4096::Plain>(&mut comparison, Form::Sized(4096))?;
+    differences::each::<nomt_4096::Plain>(&mut comparison, Form::Fixed)?;
 
     let most_pages = match (plan.short, plan.count) {
         (true, 0..=10_000) => 1,

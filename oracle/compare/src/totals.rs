@@ -2,6 +2,7 @@
 //! cell, and how many bytes of the pages are neither header nor value.
 
 use crate::{
+    panics::unless_panic,
     record::{Kind, Line},
     report::Report,
     Plan,
@@ -30,6 +31,13 @@ pub fn compare(plan: &Plan, library: impl Fn(u64) -> Reply) -> Report {
             plan.recorder.keep(most, class.into(), 8, || {
                 Line::new(Kind::Total).number(size).reply(&expected)
             });
+        }
+        if expected.number != 0 {
+            let does = match unless_panic(|| rust_total(size)) {
+                Some(_) => "computes a total",
+                None => "panics",
+            };
+            report.class(SIZE_REFUSED, does, || format!("size {size}"));
         }
         report.check(size, &expected, &library(size))
     };

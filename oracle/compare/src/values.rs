@@ -164,6 +164,7 @@ impl<'a> Comparison<'a> {
         damage::random::<R>(self, form, &mut random, cases)?;
         self.group = format!("{size}, written");
         written::each::<R>(self, form, extent, &mut random, cases)?;
+        written::left_bytes::<R>(self)?;
         self.group = format!("{size}, other chains");
         chains::each::<R>(self, form, &mut random, cases)?;
         self.group = format!("{size}, any pages");

@@ -193,7 +193,7 @@ impl Comparison<'_> {
     }
 
     /// Finishing once.
-    fn finishing<R: Rust>(
+    pub fn finishing<R: Rust>(
         &mut self,
         form: Form,
         save: &Save,

@@ -196,3 +196,17 @@ fn no_value<R: Values>(comparison: &mut Comparison, form: Form) {
     };
     comparison.reports[WRITE].class(model::SIZE, does, text);
 }
+
+/// The bytes past the value's, on a page that was not zeroed before.
+pub fn left_bytes<R: Values>(comparison: &mut Comparison) -> io::Result<()> {
+    const FILLER: u8 = 0xA5;
+    let chunked = R::with_filled_pages(FILLER, || R::chunk(&[7], &[1]))?;
+    let page = &chunked.pages[0].1;
+    let as_said = page[..5] == [0, 0, 1, 0, 7] && page[5..].iter().all(|byte| *byte == FILLER);
+    let does = match as_said {
+        true => "leaves the bytes past the value's",
+        false => "does something else",
+    };
+    comparison.reports[WRITE].class(0, does, || format!("page size {}, size 1", R::PAGE_SIZE));
+    Ok(())
+}

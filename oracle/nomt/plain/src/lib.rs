@@ -61,6 +61,9 @@ pub trait Rust: Sized {
 
     fn finish(save: Self::Save, freed: &[u32]) -> io::Result<Finished>;
 
+    /// Makes a call over pages that hold this byte before they are written, instead of zeros.
+    fn with_filled_pages<T>(byte: u8, call: impl FnOnce() -> T) -> T;
+
     /// Reads the list with this head from a file.
     fn read(file: &File, head: u32) -> io::Result<Held>;
 }
