@@ -13,7 +13,7 @@ use lib.ListN.{length, getD, take, drop, length-take, length-drop, length-append
 use lib.Seq.{getD-take, getD-drop, take-suc, take-add, take-length, length-take-le, take-append-le, drop-append-le, drop-at, getD-at}
 use borrow.Author.Tests.{le-leb, leb-true, lt-ltb, ltb-true, eq-eqb, ne-eqb, eqb-true}
 use Rattle.refusal.specs.Outcome.{answer}
-use Rattle.refusal.proofs.Cases.{check-answer, cond-cases, and-true, or-true}
+use Rattle.refusal.proofs.Cases.{unanswer, check-answer, cond-cases, and-true, or-true}
 use Rattle.page.specs.PageSize.{PageSize, capacity}
 use Rattle.page.specs.Pages.{pageCount, pageAt, writePage, writePages}
 use Rattle.page.specs.Growth.{maxBump}
@@ -926,9 +926,6 @@ module _ (s : ℕ) (store : List ℕ) where
   none-read allowed above entries {l} e =
       let same : emptyList ≡ l = unanswer (sym (readFrom-end s store allowed above entries) ∙ e) in
       rw (← same) (omega arith)
-    where
-      unanswer : {x y : FreeList} → answer x ≡ answer y → x ≡ y
-      unanswer e = cc
 
   read-few : (allowed above entries p : ℕ) (l : FreeList) → readFrom s store allowed above entries p ≡ answer l → length (l .pages) ≤ allowed
   read-few zero above entries zero l e = none-read zero above entries e
@@ -1043,9 +1040,6 @@ finished-reads s size v store head read sound freed bytesLent numbersLent {f} e 
     subst (λ (g : Finished). ((n : ℕ) → List·Memᴰ n freed → n < pageCount s (writePages s store (g .written))) → readList s (writePages s store (g .written)) (headOf (g .list)) ≡ answer (g .list)) is
     (made-reads (leb-true (made .bump) maxBump (c₂ .0)) (eqb-true (firstBad (bumped v) freed) (length freed) (c₃ .0))) inside
   where
-    unanswer : {x y : Finished} → answer x ≡ answer y → x ≡ y
-    unanswer e = cc
-
     made-reads : finished s v freed .bump ≤ maxBump → firstBad (bumped v) freed ≡ length freed
         → ((n : ℕ) → List·Memᴰ n freed → n < pageCount s (writePages s store (finished s v freed .written)))
         → readList s (writePages s store (finished s v freed .written)) (headOf (finished s v freed .list)) ≡ answer (finished s v freed .list)

@@ -11,7 +11,7 @@ use lib.Dec.{leb, ltb, eqb}
 use lib.ListN.{length, length-append}
 use borrow.Author.Tests.{lt-ltb, le-ltb, leb-true, ltb-true, eqb-true, ne-eqb}
 use Rattle.refusal.specs.Outcome.{Outcome, answer, refused, check, withAnswer}
-use Rattle.refusal.proofs.Cases.{check-answer, withAnswer-answer, cond-cases, and-true, or-true}
+use Rattle.refusal.proofs.Cases.{unanswer, check-answer, withAnswer-answer, cond-cases, and-true, or-true}
 use Rattle.page.specs.Bytes.{numberAt, numbersAt}
 use Rattle.page.specs.PageSize.{capacity}
 use Rattle.page.proofs.BytesLaws.{numbersAt-snoc}
@@ -166,9 +166,6 @@ page-read s store allowed above entries q {l} e =
     let c₄ =
     withAnswer-answer (λ (m : FreeList). answer (onTop (suc q) (entriesOf b) m)) (readFrom s store allowed (above + 1) (entries + countOf b) (prevOf b)) (c₃ .1) in
     record { inside = ltb-true _ _ (c₁ .0); fits = c₂ .0; entries-fit = c₃ .0; below = c₄ .0; reads = c₄ .1; whole = unanswer (c₄ .2) }
-  where
-    unanswer : {x y : FreeList} → answer x ≡ answer y → x ≡ y
-    unanswer e = cc
 
 -- with no page allowed only nil is read
 none-allowed : (s : ℕ) (store : List ℕ) (above entries q : ℕ) {l : FreeList} → readFrom s store 0 above entries (suc q) ≡ answer l → ⊥

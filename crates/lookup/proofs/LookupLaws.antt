@@ -11,7 +11,7 @@ use lib.ListN.{length, getD, take, drop, drop-of-length-le}
 use lib.Seq.{drop-cons}
 use borrow.Author.Tests.{le-leb, lt-leb, lt-ltb, le-ltb, ltb-true, leb-true, eq-eqb, ne-eqb}
 use Rattle.refusal.specs.Outcome.{answer, refused}
-use Rattle.refusal.proofs.Cases.{check-answer, cond-cases}
+use Rattle.refusal.proofs.Cases.{unanswer, check-answer, cond-cases}
 use Rattle.page.specs.PageSize.{PageSize}
 use Rattle.page.specs.Pages.{pageCount}
 use Rattle.page.proofs.PageSizeLaws.{page-least}
@@ -82,9 +82,6 @@ module _ {s : ℕ} (size : PageSize s) (numbers pending store : List ℕ) (page 
       find-stored h = rw (enough, ← place, ← counted, le-ltb _ _ none, lt-ltb _ _ h)
 
   -- ---- the other way: what was found lies in its slice
-
-  unanswer : {a b : Place} → answer a ≡ answer b → a ≡ b
-  unanswer e = cc
 
   pub found-within : {place : Place} → answer place ≡ find s numbers pending store page → Within s pending store place
   unfolding find

@@ -7,6 +7,10 @@ use mathlib.Core.Bool.{Bool, true, false, _&&_, _||_, cond}
 use mathlib.Core.List.{List}
 use Rattle.refusal.specs.Outcome.{Outcome, answer, refused, check, withAnswer}
 
+-- outcomes that are the same have the same answer
+pub unanswer : {A : Type 0} {x y : A} → answer x ≡ answer y → x ≡ y
+unanswer e = cc
+
 -- an answer behind a check: the test held, and the rest gave it
 pub check-answer : {A : Type 0} (b : Bool) (n : ℕ) (vs : List ℕ) (o : Outcome A) {a : A} → check b n vs o ≡ answer a → (b ≡ true) × (o ≡ answer a)
 check-answer true n vs o e = (refl, e)

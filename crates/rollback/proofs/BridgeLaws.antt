@@ -10,6 +10,7 @@ use lib.Dec.{eqb}
 use lib.ListN.{length, getD, take, drop, length-append, length-map}
 use lib.Seq.{sets, sets-eq, take-at, drop-at, getD-at, length-take-le}
 use Rattle.refusal.specs.Outcome.{Outcome, answer, refused}
+use Rattle.refusal.proofs.Cases.{unanswer}
 use Rattle.page.specs.PageSize.{PageSize, capacity}
 use Rattle.page.specs.Pages.{pageAt, Write}
 use Rattle.page.proofs.SetsLaws.{take-sets}
@@ -146,9 +147,6 @@ module _ (s : ℕ) (size : PageSize s) (v : Save) (freed buffer numbers : List �
         pages = rw P (take-sets (v .pageTable) (f .list .pages) (room .pages));
         entries = rw L (take-sets (v .entryTable) (f .list .entries) (room .entries));
       }
-    where
-      unanswer : {x y : FinishAnswer} → answer x ≡ answer y → x ≡ y
-      unanswer p = cc
 
   -- The writes of the statement are those that the call leaves.
   pub finish-lent : (a : FinishAnswer) → finishInto s v freed buffer numbers .outcome ≡ answer a → Lent s v freed buffer numbers (finishInto s v freed buffer numbers) a

@@ -11,7 +11,7 @@ use lib.Dec.{ltb}
 use lib.ListN.{length, getD}
 use lib.Seq.{getD-take}
 use Rattle.refusal.specs.Outcome.{Outcome, answer, refused}
-use Rattle.refusal.proofs.Cases.{check-answer, cond-cases}
+use Rattle.refusal.proofs.Cases.{unanswer, check-answer, cond-cases}
 use Rattle.page.specs.Growth.{maxBump}
 use Rattle.free_list.specs.Shape.{FreeList}
 use Rattle.allocator.specs.OpenSave.{Save, listOf, bumped, stateFits, nextNumber, nextSave, HandedOut, handOut}
@@ -60,9 +60,6 @@ module _ (s : ℕ) (l : FreeList) (bump : ℕ) where
           let i = v .L - suc (v .handed) in
           let same : getD (v .entryTable) i 0 ≡ getD (l .entries) i 0 = sym (getD-take (v .L) (v .entryTable) i 0 (omega arith)) ∙ ap (λ (m : FreeList). getD (m .entries) i 0) (o .list) in
           inl (i, omega (arith, o .L), omega (arith, o .L), same)
-
-  unanswer : {A : Type 0} {x y : A} → answer x ≡ answer y → x ≡ y
-  unanswer e = cc
 
   -- what a number handed out leaves
   pub record Next (v : Save) (a : HandedOut) : Type 0 where

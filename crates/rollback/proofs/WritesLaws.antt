@@ -10,7 +10,7 @@ use lib.Dec.{leb, eqb}
 use lib.ListN.{length, getD}
 use borrow.Author.Tests.{leb-true, eqb-true}
 use Rattle.refusal.specs.Outcome.{answer}
-use Rattle.refusal.proofs.Cases.{check-answer, and-true}
+use Rattle.refusal.proofs.Cases.{unanswer, check-answer, and-true}
 use Rattle.page.specs.PageSize.{PageSize, capacity}
 use Rattle.page.specs.Pages.{pageCount, pageAt, Write}
 use Rattle.page.specs.Growth.{maxBump}
@@ -68,9 +68,6 @@ pub record Room (s : ℕ) (v : Save) (f : Finished) (bytesLent numbersLent : ℕ
   pub numbers : length (f .written) ≤ numbersLent
   pub pages : length (f .list .pages) ≤ length (v .pageTable)
   pub entries : length (f .list .entries) ≤ length (v .entryTable)
-
-unanswer : {A : Type 0} {x y : A} → answer x ≡ answer y → x ≡ y
-unanswer e = cc
 
 pub succeeds : (s : ℕ) (v : Save) (freed : List ℕ) (bytesLent numbersLent : ℕ) (f : Finished) → finish s v freed bytesLent numbersLent ≡ answer f
     → Succeeds s v freed f × Room s v f bytesLent numbersLent
