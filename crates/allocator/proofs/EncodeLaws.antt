@@ -7,24 +7,18 @@ use mathlib.Core.Bool.{cond}
 use mathlib.Core.List.{List, [], _∷_, _++_, append-nil, append-assoc}
 use lib.Dec.{eqb}
 use lib.ListN.{length, take, drop, length-append, length-take}
-use lib.Seq.{sets, length-take-le, getD-take, take-take}
+use lib.Seq.{sets, length-take-le, getD-take}
 use Rattle.page.specs.PageSize.{capacity}
 use Rattle.page.specs.Pages.{Write}
 use Rattle.page.proofs.PageSizeLaws.{page-least}
 use Rattle.page.proofs.SetsLaws.{sets-append}
+use Rattle.page.proofs.PlacesLaws.{part-of-first}
 use Rattle.free_list.specs.ListPages.{encodeListPage}
 use Rattle.free_list.specs.Shape.{FreeList, entriesBelow, entriesOn}
 use Rattle.free_list.proofs.ListPagesLaws.{length-encoded}
 use Rattle.free_list.proofs.BelowLaws.{OnPage, on-page}
 use Rattle.allocator.specs.Finish.{encodedPage, encodedPages, bytesOfPages}
 use Rattle.allocator.specs.Steps.{Listed, tableList, previous}
-
--- a part that ends within the first n
-part-of-first : (from n : ℕ) (l : List ℕ) (m : ℕ) → from + m ≤ n → take m (drop from (take n l)) ≡ take m (drop from l)
-part-of-first zero n l m h = take-take m n l (omega arith)
-part-of-first (suc from) zero l m h = absurd (omega arith)
-part-of-first (suc from) (suc n) [] m h = refl
-part-of-first (suc from) (suc n) (x ∷ l) m h = part-of-first from n l m (omega arith)
 
 module _ {s : ℕ} {pages entries : List ℕ} {P L : ℕ} (l : Listed s pages entries P L) where
   many : length (take P pages) ≡ P

@@ -1,14 +1,15 @@
 -- The finish, way by way: what each refusal and the answer leave.
 use Prim.Native.Nat.{ℕ, _*_, min, _<_, _≤_}
 use native.Mathlib.Omega.{arith}
-use mathlib.Core.Path.{_≡_, refl, sym, _∙_}
-use mathlib.Core.Bool.{Bool, true, false, _&&_}
+use mathlib.Core.Path.{_≡_, sym, _∙_}
+use mathlib.Core.Bool.{true, false, _&&_}
 use mathlib.Core.List.{List, [], _∷_, map}
 use lib.Dec.{eqb}
 use lib.ListN.{length, take}
 use lib.Seq.{sets, length-take-le}
 use borrow.Author.Tests.{le-leb, lt-leb, eq-eqb, ne-eqb}
 use Rattle.refusal.specs.Outcome.{Outcome, answer, refused}
+use Rattle.refusal.proofs.Cases.{and-false-right}
 use Rattle.page.specs.PageSize.{capacity}
 use Rattle.page.specs.Pages.{Write}
 use Rattle.page.specs.Growth.{maxBump}
@@ -90,8 +91,4 @@ pub changed-popped : (popped freed : ℕ) → 0 < popped → eqb popped 0 && eqb
 changed-popped popped freed h = rw (ne-eqb popped 0 (λ (e : popped ≡ 0). omega arith))
 
 pub changed-freed : (popped freed : ℕ) → 0 < freed → eqb popped 0 && eqb freed 0 ≡ false
-changed-freed popped freed h = rw (ne-eqb freed 0 (λ (e : freed ≡ 0). omega arith)) (none (eqb popped 0))
-  where
-    none : (b : Bool) → b && false ≡ false
-    none true = refl
-    none false = refl
+changed-freed popped freed h = rw (ne-eqb freed 0 (λ (e : freed ≡ 0). omega arith)) (and-false-right (eqb popped 0))

@@ -9,9 +9,10 @@ use mathlib.Core.Bool.{Bool, true, false, _&&_}
 use mathlib.Core.List.{List, [], _∷_, _++_}
 use lib.Dec.{eqb}
 use lib.ListN.{length, getD, take, drop, length-append, length-drop, List·getD-append}
-use lib.Seq.{length-take-le, getD-take, getD-at, take-append-le, drop-append-le, take-take}
+use lib.Seq.{length-take-le, getD-take, getD-at, take-append-le, drop-append-le}
 use borrow.Author.Tests.{le-leb, ne-eqb}
 use Rattle.page.specs.PageSize.{capacity}
+use Rattle.page.proofs.PlacesLaws.{part-of-first}
 use Rattle.free_list.specs.ListPages.{encodeListPage}
 use Rattle.free_list.specs.Shape.{FreeList, isShape, isFragmented, entriesBelow, entriesOn}
 use Rattle.free_list.proofs.BelowLaws.{fragmented-is, below-inner, below-head}
@@ -66,14 +67,7 @@ full-page c l j pos more most =
     rest : c * (j + 1) - c * j ≡ c
     rest = omega arith
 
--- a part that ends within the first n
-part-of-first : (from n : ℕ) (l : List ℕ) (m : ℕ) → from + m ≤ n → take m (drop from (take n l)) ≡ take m (drop from l)
-part-of-first zero n l m h = take-take m n l (omega arith)
-part-of-first (suc from) zero l m h = absurd (omega arith)
-part-of-first (suc from) (suc n) [] m h = refl
-part-of-first (suc from) (suc n) (x ∷ l) m h = part-of-first from n l m (omega arith)
-
--- the same, whatever stands behind these n
+-- a part that ends within the first n, whatever stands behind these
 part-of-kept : (from n m : ℕ) (ns more : List ℕ) → from + m ≤ n → n ≤ length ns → take m (drop from (take n ns ++ more)) ≡ take m (drop from ns)
 part-of-kept from n m ns more h fits =
     let long = length-take-le n ns fits in

@@ -1,35 +1,21 @@
 -- The list that a finish makes has the shape; and when it is fragmented.
-use Prim.Native.Nat.{ℕ, zero, suc, _+_, _*_, _-_, _≤_}
-use native.Mathlib.Nat.{mul-suc, mul-add, mul-zero, zero-sub}
+use Prim.Native.Nat.{ℕ, _+_, _*_, _-_, _≤_}
+use native.Mathlib.Nat.{mul-add}
 use native.Mathlib.Omega.{arith}
-use mathlib.Core.Path.{_≡_, refl}
-use mathlib.Core.Bool.{Bool, true, false, _&&_, _||_}
+use mathlib.Core.Path.{_≡_}
+use mathlib.Core.Bool.{true, false, _&&_}
 use mathlib.Core.List.{List}
 use lib.Dec.{eqb}
 use lib.ListN.{length}
 use borrow.Author.Tests.{le-leb, eq-eqb}
 use Rattle.free_list.specs.Shape.{FreeList, isShape, isFragmented}
 use Rattle.free_list.proofs.BelowLaws.{fragmented-is}
+use Rattle.free_list.proofs.ShapeLaws.{bounds-shape}
 use Rattle.preallocate.specs.Plan.{room, planOf}
 use Rattle.preallocate.proofs.PlanLaws.{plan-enough, plan-tight, plan-kept, plan-left, plan-fits}
 use Rattle.allocator.specs.Finish.{newList}
 use Rattle.allocator.proofs.NewListLaws.{length-new-pages, length-new-entries}
 use Rattle.allocator.proofs.SomeLaws.{plan-some}
-
--- Some entries, on as few pages as hold them or one more, are the shape.
-pub bounds-shape : (c P L : ℕ) → 1 ≤ L → c * P ≤ L + c → L ≤ c * P → isShape c P L ≡ true
-unfolding isShape
-bounds-shape c P L some few most = rw (le-leb 1 L some, le-leb (c * (P - 1)) L (page-less P few), le-leb L (c * P) most) (last (eqb P 0 && eqb L 0))
-  where
-    page-less : (n : ℕ) → c * n ≤ L + c → c * (n - 1) ≤ L
-    page-less zero h = rw (zero-sub 1, mul-zero) (omega arith)
-    page-less (suc n) h =
-        let e : suc n - 1 ≡ n = omega arith in
-        rw e (omega (arith, mul-suc c n))
-
-    last : (b : Bool) → b || true ≡ true
-    last true = refl
-    last false = refl
 
 -- A list is fragmented exactly where it has two pages or more, and just the entries of one page less.
 pub fragmented-exactly : (c P L : ℕ)

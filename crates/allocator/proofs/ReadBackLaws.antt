@@ -18,7 +18,7 @@ use Rattle.page.specs.PageSize.{PageSize, capacity}
 use Rattle.page.specs.Pages.{pageCount, pageAt, writePage, writePages}
 use Rattle.page.specs.Growth.{maxBump}
 use Rattle.page.proofs.PlacesLaws.{getD-mem, part-mem, at-places}
-use Rattle.page.proofs.PageSizeLaws.{page-least}
+use Rattle.page.proofs.PageSizeLaws.{page-least, page-room}
 use Rattle.page.proofs.PagesLaws.{page-within, pageCount-mono, pageCount-fits, length-written, page-same, page-other}
 use Rattle.preallocate.specs.Plan.{Plan, planOf}
 use Rattle.preallocate.proofs.PlanLaws.{plan-kept, plan-bump}
@@ -468,11 +468,6 @@ module _ (c : ℕ) (l : FreeList) (k : ℕ) (freed : List ℕ) (bump : ℕ) (two
 
 -- ---- the pages of a list as encoded
 
--- what fits a page
-page-room : (s n : ℕ) → PageSize s → n ≤ capacity s → 6 + 4 * n ≤ s
-unfolding capacity
-page-room s n size h = omega (arith, page-least size)
-
 page-few : (s n : ℕ) → PageSize s → n ≤ capacity s → n < 2 ^ 16
 unfolding capacity
 page-few s n size h = omega (arith, size .limit)
@@ -503,10 +498,7 @@ module _ (s : ℕ) (size : PageSize s) (m : FreeList) (shape : isShape (capacity
   -- a page has s bytes
   pub encoded-long : (j : ℕ) → j < length (m .pages) → length (encodedPage s m j .bytes) ≡ s
   unfolding encodedPage
-  encoded-long j h = length-encoded s _ (entriesOn cap m j) (fits (length (entriesOn cap m j)) (entries-on-few j h))
-    where
-      fits : (n : ℕ) → n ≤ capacity s → 6 + 4 * n ≤ s
-      fits n h = page-room s n size h
+  encoded-long j h = length-encoded s _ (entriesOn cap m j) (page-room (length (entriesOn cap m j)) size (entries-on-few j h))
 
   -- it is decoded again
   module _ (j : ℕ) (h : j < length (m .pages)) (pages-fit : (n : ℕ) → List·Memᴰ n (m .pages) → n < 2 ^ 32) (entries-fit : (n : ℕ) → List·Memᴰ n (m .entries) → n < 2 ^ 32) where
@@ -1001,7 +993,7 @@ module _ (s : ℕ) (size : PageSize s) (l : FreeList) (store : List ℕ) (head :
       cond-cases ReadsBack (eqb k 0 && eqb (length freed) 0) _ _ (λ _. reads-same) (reads-changed k (omega arith))
 
 -- none of the freed numbers is bad
-good-freed : (limit : ℕ) (ns : List ℕ) → firstBad limit ns ≡ length ns → (n : ℕ) → List·Memᴰ n ns → (1 ≤ n) × (n < limit)
+pub good-freed : (limit : ℕ) (ns : List ℕ) → firstBad limit ns ≡ length ns → (n : ℕ) → List·Memᴰ n ns → (1 ≤ n) × (n < limit)
 unfolding firstBad
 good-freed limit [] e n m = absurd (List·Memᴰ·not-nil m)
 good-freed limit (x ∷ ns) e n m = go (leb 1 x && ltb x limit) refl (good-freed limit ns)

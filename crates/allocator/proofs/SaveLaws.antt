@@ -9,7 +9,7 @@ use lib.Dec.{leb, ltb, eqb}
 use borrow.Author.Tests.{le-leb, lt-leb, leb-true, ne-eqb, lt-ltb, le-ltb}
 use lib.ListN.{length, getD}
 use Rattle.refusal.specs.Outcome.{answer, refused}
-use Rattle.refusal.proofs.Cases.{and-true}
+use Rattle.refusal.proofs.Cases.{and-true, and-true-right, and-false-right}
 use Rattle.page.specs.PageSize.{capacity}
 use Rattle.page.specs.Growth.{maxBump, grown}
 use Rattle.free_list.specs.Shape.{isShape}
@@ -43,22 +43,14 @@ module _ (c P L : ℕ) (pos : 2 ≤ c) (some : L ≡ 0 → ⊥) where
   pub shape-few : P ≤ (L - 1) / c → false ≡ isShape c P L
   shape-few h =
       let less : c * P < L = omega (arith, mul-le-mul-left c h, div-mul-le-self (L - 1) c) in
-      sym (shape-some ∙ rw (lt-leb L (c * P) less) (none (leb (c * (P - 1)) L)))
-    where
-      none : (b : Bool) → b && false ≡ false
-      none true = refl
-      none false = refl
+      sym (shape-some ∙ rw (lt-leb L (c * P) less) (and-false-right (leb (c * (P - 1)) L)))
 
   -- enough pages, and not more than one too many
   pub shape-enough : (L - 1) / c < P → leb (P - 1) (L / c) ≡ isShape c P L
   shape-enough h =
       let most : L ≤ c * P = omega (arith, mul-le-mul-left c h, lt-div-mul-add {a = L - 1} {b = c} (omega arith)) in
-      sym (shape-some ∙ rw (le-leb L (c * P) most) (only (leb (c * (P - 1)) L)) ∙ same-test (leb (c * (P - 1)) L) (leb (P - 1) (L / c)) down up)
+      sym (shape-some ∙ rw (le-leb L (c * P) most) (and-true-right (leb (c * (P - 1)) L)) ∙ same-test (leb (c * (P - 1)) L) (leb (P - 1) (L / c)) down up)
     where
-      only : (b : Bool) → b && true ≡ b
-      only true = refl
-      only false = refl
-
       down : leb (c * (P - 1)) L ≡ true → leb (P - 1) (L / c) ≡ true
       down e = le-leb (P - 1) (L / c) (le-div-iff-mul-le {k = c} {x = P - 1} {y = L} (omega arith) .1 (rw mul-comm (leb-true (c * (P - 1)) L e)))
 

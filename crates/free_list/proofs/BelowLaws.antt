@@ -4,15 +4,11 @@ use native.Mathlib.Nat.{mul-le-mul-left}
 use native.Mathlib.Decide.{decLt}
 use native.Mathlib.Omega.{arith}
 use mathlib.Core.Path.{_≡_, refl, ap, sym, _∙_}
-use mathlib.Core.Bool.{Bool, true, false, _&&_}
+use mathlib.Core.Bool.{Bool, true, false}
 use lib.Dec.{leb, eqb}
 use borrow.Author.Tests.{le-leb, lt-leb, leb-true, eqb-true}
-use Rattle.refusal.proofs.Cases.{and-true}
+use Rattle.refusal.proofs.Cases.{and-true, and-false-right}
 use Rattle.free_list.specs.Shape.{isFragmented, entriesBelow}
-
-and-false-right : (b : Bool) → b && false ≡ false
-and-false-right true = refl
-and-false-right false = refl
 
 -- a fragmented list has just the entries of one page less
 pub fragmented-is : (c P L : ℕ) → isFragmented c P L ≡ true → (2 ≤ P) × (L ≡ c * (P - 1))

@@ -11,7 +11,7 @@ use lib.Dec.{leb, ltb, eqb}
 use lib.ListN.{length, length-append}
 use borrow.Author.Tests.{lt-ltb, le-ltb, leb-true, ltb-true, eqb-true, ne-eqb}
 use Rattle.refusal.specs.Outcome.{Outcome, answer, refused, check, withAnswer}
-use Rattle.refusal.proofs.Cases.{unanswer, check-answer, withAnswer-answer, cond-cases, and-true, or-true}
+use Rattle.refusal.proofs.Cases.{unanswer, check-answer, withAnswer-answer, cond-cases, and-true, and-true-right, and-false-right, or-true}
 use Rattle.page.specs.Bytes.{numberAt, numbersAt}
 use Rattle.page.specs.PageSize.{capacity}
 use Rattle.page.proofs.BytesLaws.{numbersAt-snoc}
@@ -40,11 +40,7 @@ countFits-small c above entries n e =
 -- one entry more
 entriesFit-snoc : (count : ℕ) (ns : List ℕ) (x : ℕ) → entriesFit count (ns ++ (x ∷ [])) ≡ entriesFit count ns && (leb 1 x && ltb x count)
 unfolding entriesFit
-entriesFit-snoc count [] x = last (leb 1 x && ltb x count)
-  where
-    last : (b : Bool) → b && true ≡ b
-    last true = refl
-    last false = refl
+entriesFit-snoc count [] x = and-true-right (leb 1 x && ltb x count)
 entriesFit-snoc count (n ∷ ns) x = rw (entriesFit-snoc count ns x) (grouped (leb 1 n && ltb n count) (entriesFit count ns) (leb 1 x && ltb x count))
   where
     grouped : (a b c : Bool) → a && (b && c) ≡ (a && b) && c
@@ -58,16 +54,8 @@ entries-more count page i bad x u e f before =
     rw (add-one i, numbersAt-snoc 4 page 6 i, ← e, entriesFit-snoc count (numbersAt 4 page 6 i) x, before, f) (step (leb 1 x && ltb x count))
   where
     step : (b : Bool) → eqb bad 0 && b ≡ eqb (bad + cond b 0 1) 0
-    step true = rw (add-zero bad) (last (eqb bad 0))
-      where
-        last : (b : Bool) → b && true ≡ b
-        last true = refl
-        last false = refl
-    step false = rw (ne-eqb (bad + 1) 0 (omega arith)) (last (eqb bad 0))
-      where
-        last : (b : Bool) → b && false ≡ false
-        last true = refl
-        last false = refl
+    step true = rw (add-zero bad) (and-true-right (eqb bad 0))
+    step false = rw (ne-eqb (bad + 1) 0 (omega arith)) (and-false-right (eqb bad 0))
 
 -- ---- a page of a walk
 

@@ -4,13 +4,13 @@ use native.Mathlib.Nat.{mul-suc, mul-zero, zero-sub}
 use native.Mathlib.Omega.{arith}
 use mathlib.Core.Path.{_≡_, refl, sym}
 use mathlib.Core.Logic.{_⊎_, inl, inr, ⊎-elim}
-use mathlib.Core.Bool.{Bool, true, false, _&&_, _||_}
+use mathlib.Core.Bool.{true, false, _&&_, _||_}
 use mathlib.Core.List.{List, [], _∷_, _++_, List·Memᴰ, List·Memᴰ·append-cases, List·Memᴰ·cases-cons, List·Memᴰ·eq-of-singleton, List·Memᴰ·not-nil}
 use lib.Dec.{leb, ltb, eqb}
 use lib.ListN.{length, length-append}
 use borrow.Author.Tests.{le-leb, leb-true, ltb-true, eqb-true, eqb-false}
 use Rattle.refusal.specs.Outcome.{answer}
-use Rattle.refusal.proofs.Cases.{cond-cases, and-true, or-true}
+use Rattle.refusal.proofs.Cases.{cond-cases, and-true, or-true, or-true-right}
 use Rattle.page.specs.PageSize.{capacity}
 use Rattle.page.specs.Pages.{pageCount, pageAt}
 use Rattle.free_list.specs.ListPages.{countOf, entriesOf}
@@ -127,21 +127,22 @@ pub record Accepted (s : ℕ) (store : List ℕ) (l : FreeList) : Type 0 where
   pub pages-inside : (n : ℕ) → List·Memᴰ n (l .pages) → Inside (pageCount s store) n
   pub entries-inside : (n : ℕ) → List·Memᴰ n (l .entries) → Inside (pageCount s store) n
 
+-- some entries, on as few pages as hold them or one more, are the shape
+pub bounds-shape : (c P L : ℕ) → 1 ≤ L → c * P ≤ L + c → L ≤ c * P → isShape c P L ≡ true
+unfolding isShape
+bounds-shape c P L some few most = rw (le-leb 1 L some, le-leb (c * (P - 1)) L (page-less P few), le-leb L (c * P) most) (or-true-right (eqb P 0 && eqb L 0))
+  where
+    page-less : (n : ℕ) → c * n ≤ L + c → c * (n - 1) ≤ L
+    page-less zero h = rw (zero-sub 1, mul-zero) (omega arith)
+    page-less (suc n) h =
+        let e : suc n - 1 ≡ n = omega arith in
+        rw e (omega (arith, mul-suc c n))
+
 -- the counts of a whole list are those of the shape
 shaped : (c P L : ℕ) → ((P ≡ 0) × (L ≡ 0)) ⊎ ((1 ≤ L) × (c * P ≤ L + c) × (L ≤ c * P)) → isShape c P L ≡ true
 unfolding isShape
 shaped c P L (inl e) = rw (e .0, e .1)
-shaped c P L (inr h) = rw (le-leb 1 L (h .0), le-leb (c * (P - 1)) L (page-less P (h .1) (h .2)), le-leb L (c * P) (h .2)) (last (eqb P 0 && eqb L 0))
-  where
-    page-less : (k : ℕ) → c * k ≤ L + c → L ≤ c * k → c * (k - 1) ≤ L
-    page-less zero few most = rw (zero-sub 1, mul-zero) (omega arith)
-    page-less (suc k) few most =
-        let e : suc k - 1 ≡ k = omega arith in
-        rw e (omega (arith, mul-suc c k))
-
-    last : (b : Bool) → b || true ≡ true
-    last true = refl
-    last false = refl
+shaped c P L (inr h) = bounds-shape c P L (h .0) (h .1) (h .2)
 
 pub read-accepted : (s : ℕ) (store : List ℕ) (head : ℕ) (l : FreeList) → readList s store head ≡ answer l → Accepted s store l
 unfolding readList

@@ -1,5 +1,5 @@
 -- What every page size has, and that document 01's is one.
-use Prim.Native.Nat.{ℕ, _*_, _/_, _≤_}
+use Prim.Native.Nat.{ℕ, _+_, _*_, _/_, _≤_}
 use mathlib.Core.Path.{_≡_, refl}
 use native.Mathlib.Omega.{arith}
 use Rattle.page.specs.PageSize.{capacity, PageSize, pageSize}
@@ -8,6 +8,11 @@ use Rattle.page.specs.PageSize.{capacity, PageSize, pageSize}
 pub page-least : {s : ℕ} → PageSize s → 16 ≤ s
 unfolding capacity
 page-least size = omega (arith, size .multiple, size .two-entries)
+
+-- a list page's header and entries fit the page
+pub page-room : {s : ℕ} (n : ℕ) → PageSize s → n ≤ capacity s → 6 + 4 * n ≤ s
+unfolding capacity
+page-room n size h = omega (arith, page-least size)
 
 -- a page is some whole number of 4-byte words
 pub page-words : {s : ℕ} → PageSize s → 4 * (s / 4) ≡ s

@@ -13,6 +13,7 @@ use lib.Dec.{leb, eqb}
 use borrow.Author.Tests.{leb-true, leb-false, le-leb, eqb-true, eqb-false, eq-eqb}
 use Rattle.refusal.proofs.Cases.{cond-cases, and-true, or-true}
 use Rattle.free_list.specs.Shape.{FreeList, isShape, isFragmented}
+use Rattle.free_list.proofs.BelowLaws.{fragmented-is}
 use Rattle.preallocate.specs.Plan.{Plan, pagesFor, pageNumber, pagesAfter, pushedAfter, renumbered, mended, emptied, firstPlan}
 use Rattle.preallocate.specs.declared.turns.Plan.{Plan as Counts}
 use Rattle.preallocate.specs.Counts.{counts, listed, Planable}
@@ -45,14 +46,9 @@ shaped c P L e = go (or-true (eqb P 0 && eqb L 0) (leb 1 L && (leb (c * (P - 1))
         let u = and-true (leb (c * (P - 1)) L) (leb L (c * P)) (t .1) in
         record { most = leb-true L (c * P) (u .1); least = page-more P (leb-true (c * (P - 1)) L (u .0)) }
 
--- a fragmented list has a page more than it needs
-fragmented-size : (c P L : ℕ) → isFragmented c P L ≡ true → (2 ≤ P) × (L ≡ c * (P - 1))
-unfolding isFragmented
-fragmented-size c P L e = let t = and-true (leb 2 P) (eqb L (c * (P - 1))) e in (leb-true 2 P (t .0), eqb-true L (c * (P - 1)) (t .1))
-
--- so where nothing is popped from one, it has two pages at least
+-- where nothing is popped from a fragmented list, it has two pages at least
 pub mended-pages : (c P L k : ℕ) → eqb k 0 && isFragmented c P L ≡ true → 2 ≤ P
-mended-pages c P L k e = fragmented-size c P L (and-true (eqb k 0) (isFragmented c P L) e .1) .0
+mended-pages c P L k e = fragmented-is c P L (and-true (eqb k 0) (isFragmented c P L) e .1) .0
 
 not-fragmented : (c P L : ℕ) → 2 ≤ c → 1 ≤ L → Shaped c P L → isFragmented c P L ≡ false → c * P < L + c
 unfolding isFragmented
@@ -132,7 +128,7 @@ module _ (c : ℕ) (l : FreeList) (two : 2 ≤ c) (shape : isShape c (length (l 
   first-mended some e =
       let t = and-true (eqb k 0) (isFragmented c P L) e in
       let z = eqb-true k 0 (t .0) in
-      let f = fragmented-size c P L (t .1) in
+      let f = fragmented-is c P L (t .1) in
       let n = length-append (pushedAfter c l k freed) (pageNumber c l (P - 2) ∷ pageNumber c l (P - 1) ∷ []) in
       record {
         sound = omega arith;

@@ -30,6 +30,18 @@ pub and-true : (a b : Bool) → a && b ≡ true → (a ≡ true) × (b ≡ true)
 and-true true b e = (refl, e)
 and-true false b e = let z : _≡_ {A = ℕ} 0 1 = cc in absurd (omega arith)
 
+pub and-true-right : (b : Bool) → b && true ≡ b
+and-true-right true = refl
+and-true-right false = refl
+
+pub and-false-right : (b : Bool) → b && false ≡ false
+and-false-right true = refl
+and-false-right false = refl
+
+pub or-true-right : (b : Bool) → b || true ≡ true
+or-true-right true = refl
+or-true-right false = refl
+
 pub and-false : (a b : Bool) → a && b ≡ false → (a ≡ false) ⊎ (b ≡ false)
 and-false true b e = inr e
 and-false false b e = inl refl

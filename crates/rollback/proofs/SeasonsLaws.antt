@@ -6,10 +6,10 @@ use mathlib.Core.Bool.{Bool, true, false, _&&_, cond}
 use mathlib.Core.List.{List, [], _∷_, _++_, List·Memᴰ, List·Memᴰ·head, List·Memᴰ·tail, List·Memᴰ·cases-cons, List·Memᴰ·not-nil, List·Memᴰ·append-cases, Memᴰ·cast, Memᴰ·append-left, Memᴰ·append-right}
 use native.Mathlib.Decide.{decLt}
 use native.Mathlib.Omega.{arith}
-use lib.Dec.{leb, ltb, eqb}
+use lib.Dec.{eqb}
 use lib.ListN.{length, getD, drop, length-drop}
 use lib.Seq.{getD-drop}
-use borrow.Author.Tests.{leb-true, ltb-true, eqb-true, eq-eqb}
+use borrow.Author.Tests.{eqb-true, eq-eqb}
 use Rattle.refusal.proofs.Cases.{and-true}
 use Rattle.page.specs.PageSize.{PageSize, capacity}
 use Rattle.page.specs.Pages.{pageCount, pageAt}
@@ -22,11 +22,11 @@ use Rattle.free_list.specs.ListPages.{prevOf, entriesOf}
 use Rattle.preallocate.specs.Plan.{Plan, planOf}
 use Rattle.preallocate.proofs.PlanLaws.{plan-bump, plan-kept}
 use Rattle.allocator.specs.OpenSave.{Save, bumped}
-use Rattle.allocator.specs.Finish.{newList, encodedPage, encodedPages, Finished, carriedOut, finishList, firstBad, finished, headOf}
+use Rattle.allocator.specs.Finish.{newList, encodedPage, encodedPages, Finished, carriedOut, finishList, finished, headOf}
 use Rattle.allocator.proofs.FreshLaws.{Between}
 use Rattle.allocator.proofs.CountLaws.{count, numbersFrom, count-append, conserved}
 use Rattle.allocator.proofs.NewShapeLaws.{length-pages-planned}
-use Rattle.allocator.proofs.ReadBackLaws.{Held, Sound, read-held, head-read, mem-count, count-mem, count-before, count-once, new-entry, pages-below, new-held}
+use Rattle.allocator.proofs.ReadBackLaws.{Held, Sound, read-held, head-read, good-freed, mem-count, count-mem, count-before, count-once, new-entry, pages-below, new-held}
 use Rattle.rollback.specs.Calls.{Run, run}
 use Rattle.rollback.specs.Rollback.{GetsList, Value, GetsValue, Different, State, Good, Cut}
 use Rattle.rollback.specs.Seasons.{Saved, Season, back, onward, Seasons}
@@ -55,21 +55,6 @@ count-absent x ns f = go (decLt 0 (count x ns))
     go : Dec (0 < count x ns) → count x ns ≡ 0
     go (yes y) = absurd (f (count-mem x ns (omega arith)))
     go (no n) = omega arith
-
--- the freed numbers are none 0, and below the bump of the save
-all-good : (limit : ℕ) (ns : List ℕ) → firstBad limit ns ≡ length ns → (n : ℕ) → List·Memᴰ n ns → (1 ≤ n) × (n < limit)
-unfolding firstBad
-all-good limit [] e n m = absurd (List·Memᴰ·not-nil m)
-all-good limit (x ∷ ns) e n m = go (leb 1 x && ltb x limit) refl (all-good limit ns) (List·Memᴰ·cases-cons m)
-  where
-    go : (b : Bool) → leb 1 x && ltb x limit ≡ b → (firstBad limit ns ≡ length ns → (n : ℕ) → List·Memᴰ n ns → (1 ≤ n) × (n < limit)) → (n ≡ x) ⊎ List·Memᴰ n ns → (1 ≤ n) × (n < limit)
-    go true t rest (inl q) = let u = and-true (leb 1 x) (ltb x limit) t in omega (arith, leb-true 1 x (u .0), ltb-true x limit (u .1))
-    go true t rest (inr h) =
-        let first : cond (leb 1 x && ltb x limit) (suc (firstBad limit ns)) 0 ≡ suc (firstBad limit ns) = rw t in
-        rest (omega (arith, first)) n h
-    go false t rest h =
-        let none : cond (leb 1 x && ltb x limit) (suc (firstBad limit ns)) 0 ≡ 0 = rw t in
-        absurd (omega (arith, none))
 
 -- an entry that was handed out is among the last ones
 between-last : (ns : List ℕ) (h k n : ℕ) → k ≡ min h (length ns) → Between ns (length ns - h) (length ns) n → 1 ≤ count n (drop (length ns - k) ns)
@@ -147,7 +132,7 @@ module _ (s : ℕ) (size : PageSize s) (a b : State) (first : Good s a) (c : Cut
   sound-first = sound l up (first .different) (λ n m. omega (arith, first .below n m, up-is)) (omega (arith, done .stands .some))
 
   freed-good : (n : ℕ) → List·Memᴰ n freed → (1 ≤ n) × (n < up)
-  freed-good = all-good up freed (done .good)
+  freed-good = good-freed up freed (done .good)
 
   -- counts of a number in the first list, among the entries handed out, and among the freed ones
   once : (x : ℕ) → count x (l .pages) + count x (l .entries) ≤ 1

@@ -1,33 +1,26 @@
 -- `encode_free_list_page` meets its contract: the header, the entries and the zeros behind them fill the page.
 -- Assumes nothing.
-use Prim.Native.Nat.{ℕ, _+_, _*_, _≤_}
 use mathlib.Core.Path.{_≡_}
 use native.Mathlib.Omega.{arith}
 use lib.ListN.{length, take, drop, length-drop}
 use lib.Seq.{length-take-le}
-use Rattle.page.specs.PageSize.{PageSize, capacity}
-use Rattle.page.proofs.PageSizeLaws.{page-least}
+use Rattle.page.proofs.PageSizeLaws.{page-least, page-room}
 use Rattle.free_list.proofs.ListPagesLaws.{encoded}
 use borrow.Author.Needs.{needs}
 use Rattle.free_list.proofs.list_page.encode_free_list_page.Statement.{statement}
 use Rattle.free_list.proofs.list_page.encode_free_list_page.Tie as tie
 
--- the entries fit the page
-fits : (s n : ℕ) → PageSize s → n ≤ capacity s → 6 + 4 * n ≤ s
-unfolding capacity
-fits s n page h = omega (arith, page-least page)
-
 write-u32-requires : tie.Need-write-u32-requires
 write-u32-requires c κs = omega (arith, page-least (c .before .before .before .pre .0), c .before .before .before .pre .1)
 
 cast-write-u16 : tie.Need-cast-write-u16
-cast-write-u16 c = omega (arith, fits _ _ (c .before .before .before .before .before .before .before .pre .0) (c .before .before .before .before .before .before .before .pre .2), c .before .before .before .before .before .before .before .pre .0 .limit)
+cast-write-u16 c = omega (arith, page-room _ (c .before .before .before .before .before .before .before .pre .0) (c .before .before .before .before .before .before .before .pre .2), c .before .before .before .before .before .before .before .pre .0 .limit)
 
 write-u16-requires : tie.Need-write-u16-requires
 write-u16-requires c κs = omega (arith, page-least (c .before .before .before .before .before .before .before .pre .0), c .before .before .before .before .before .before .before .pre .1)
 
 write-numbers-requires : tie.Need-write-numbers-requires
-write-numbers-requires c κs = (c .before .before .before .before .before .before .before .before .before .before .before .pre .3, omega (arith, fits _ _ (c .before .before .before .before .before .before .before .before .before .before .before .pre .0) (c .before .before .before .before .before .before .before .before .before .before .before .pre .2), c .before .before .before .before .before .before .before .before .before .before .before .pre .1))
+write-numbers-requires c κs = (c .before .before .before .before .before .before .before .before .before .before .before .pre .3, omega (arith, page-room _ (c .before .before .before .before .before .before .before .before .before .before .before .pre .0) (c .before .before .before .before .before .before .before .before .before .before .before .pre .2), c .before .before .before .before .before .before .before .before .before .before .before .pre .1))
 
 mul-clear : tie.Need-mul-clear
 mul-clear c = search needs
@@ -46,7 +39,7 @@ returns c =
     let a = c .before .before .before .before .before .before .before .before .before .before .before .before .before .before .before .before .before .before .args in
     let es = take (a .n) (drop (a .from) (a .entries .now)) in
     let count : length es ≡ a .n = length-take-le (a .n) (drop (a .from) (a .entries .now)) (omega (arith, c .before .before .before .before .before .before .before .before .before .before .before .before .before .before .before .before .before .before .pre .3, length-drop (a .from) (a .entries .now))) in
-    encoded (a .size) (a .prev .0) es (a .n) (a .page .now) _ _ _ _ count (c .before .before .before .before .before .before .before .before .before .before .before .before .before .before .before .before .before .before .pre .1) (fits _ _ (c .before .before .before .before .before .before .before .before .before .before .before .before .before .before .before .before .before .before .pre .0) (c .before .before .before .before .before .before .before .before .before .before .before .before .before .before .before .before .before .before .pre .2)) (c .before .before .before .before .before .before .before .before .before .before .before .before .before .before .write-u32 .ensures) (c .before .before .before .before .before .before .before .before .before .before .write-u16 .ensures) (c .before .before .before .before .before .before .write-numbers .ensures) (c .before .before .clear .ensures)
+    encoded (a .size) (a .prev .0) es (a .n) (a .page .now) _ _ _ _ count (c .before .before .before .before .before .before .before .before .before .before .before .before .before .before .before .before .before .before .pre .1) (page-room _ (c .before .before .before .before .before .before .before .before .before .before .before .before .before .before .before .before .before .before .pre .0) (c .before .before .before .before .before .before .before .before .before .before .before .before .before .before .before .before .before .before .pre .2)) (c .before .before .before .before .before .before .before .before .before .before .before .before .before .before .write-u32 .ensures) (c .before .before .before .before .before .before .before .before .before .before .write-u16 .ensures) (c .before .before .before .before .before .before .write-numbers .ensures) (c .before .before .clear .ensures)
 
 pub encode-free-list-page-spec : {M : Type 1} → statement M
 encode-free-list-page-spec =
