@@ -19,16 +19,21 @@
 static int failures;
 static int checks;
 
-/* A store of zeros that takes memory only for the pages that are touched. */
+/*
+ * A store of zeros that takes memory only for the pages that are touched. Nothing before it and nothing
+ * behind it can be read or written.
+ */
 static uint8_t *new_store(size_t pages) {
-    void *store =
-        mmap(NULL, pages * PAGE, PROT_READ | PROT_WRITE, MAP_PRIVATE | MAP_ANONYMOUS | MAP_NORESERVE, -1, 0);
-    if (store == MAP_FAILED) {
+    size_t bytes = pages * PAGE;
+    uint8_t *around = mmap(NULL, bytes + 2 * PAGE, PROT_NONE, MAP_PRIVATE | MAP_ANONYMOUS | MAP_NORESERVE, -1, 0);
+    if (around == MAP_FAILED || mprotect(around + PAGE, bytes, PROT_READ | PROT_WRITE) != 0) {
         perror("limits: mmap");
         exit(2);
     }
-    return store;
+    return around + PAGE;
 }
+
+static void free_store(uint8_t *store, size_t pages) { munmap(store - PAGE, (pages + 2) * PAGE); }
 
 /* What a place of `out` or of a table holds before a call. */
 static const uint32_t UNTOUCHED = UINT32_C(0xA5A5A5A5);
@@ -102,7 +107,7 @@ static void endless(void) {
     expect("two pages that point at each other",
            got == MOPSIENNA_CHAIN && untouched(out, 0) && table[0] == UNTOUCHED && table[1] == UNTOUCHED);
     free(table);
-    munmap(store, pages * PAGE);
+    free_store(store, pages);
 }
 
 /* A list of 3,000 full pages, in tables that are one place longer. */
@@ -131,7 +136,7 @@ static void long_list(void) {
     expect("a list of 3,000 full pages", right);
     free(entries);
     free(numbers);
-    munmap(store, pages * PAGE);
+    free_store(store, pages);
 }
 
 /* Page j of the new list is what the list tables say. */
@@ -186,7 +191,7 @@ static void large_save(const char *call, uint32_t list) {
     free(freed);
     free(entries);
     free(pages);
-    munmap(buffer, (size_t)room * PAGE);
+    free_store(buffer, room);
 }
 
 /* A value of 2^29 bytes, written page by page, read and deleted. */
@@ -229,9 +234,9 @@ static void largest_value(void) {
                                              memcmp(numbers, found, total * sizeof *numbers) == 0);
     free(found);
     free(numbers);
-    munmap(back, size + PAGE);
-    munmap(value, size);
-    munmap(store, pages * PAGE);
+    free_store(back, size / PAGE + 1);
+    free_store(value, size / PAGE);
+    free_store(store, pages);
 }
 
 /* Hands out one number from a save without a list. */
@@ -342,7 +347,7 @@ static void partial_store(void) {
     fill(out);
     got = mopsienna_lookup(numbers, 0, store, 0, store, length, 2, out);
     expect("the partial page", got == MOPSIENNA_MISSING && out[0] == 2 && untouched(out, 1));
-    munmap(store, 3 * PAGE);
+    free_store(store, 3);
 }
 
 static void *run(void *unused) {
