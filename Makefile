@@ -7,7 +7,7 @@ export NOMT_SRC
 LIB := target/staticlib/libmopsienna.a
 ORACLE := cargo run --quiet --release --manifest-path oracle/Cargo.toml
 
-.PHONY: run test lib sized interface limits memcheck compare record cuts bench times
+.PHONY: run test lib sized interface limits memcheck compare record cuts bench count times
 
 # Builds the sizing program and runs it: on standard input, or on a sample where that is a terminal.
 run:
@@ -60,6 +60,11 @@ cuts: lib sized
 # The library and the Rust, timed in turn.
 bench: lib sized
 	@$(ORACLE) -p bench -- $(ARGS)
+
+# The instructions of one call on each side, counted by callgrind.
+count: lib sized
+	@cargo build --quiet --release --manifest-path oracle/Cargo.toml -p bench
+	@python3 docs/count.py
 
 # How long each crate's check takes, from nothing.
 times:

@@ -23,7 +23,11 @@ pub mod page_pool {
 
     impl PagePool {
         pub fn alloc_fat_page(&self) -> FatPage {
-            Box::new([FILLER.get(); PAGE_SIZE])
+            // Zeros may come from the allocator, which is not to be lost in benchmarks.
+            match FILLER.get() {
+                0 => Box::new([0; PAGE_SIZE]),
+                byte => Box::new([byte; PAGE_SIZE]),
+            }
         }
     }
 }
