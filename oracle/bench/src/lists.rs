@@ -11,6 +11,7 @@ use common::{
     lists::{self, Portions, CAPACITY},
     Random, Store,
 };
+use mopsienna_sys::{Form, Reply};
 use nomt_4096::{
     beatree::allocator::{
         probe::free_list::{decode_free_list_page, portions, FreeList},
@@ -128,8 +129,8 @@ impl List {
         PageNumber(lists::head(&self.list))
     }
 
-    fn read_into(&self, pages: &mut [u32], entries: &mut [u32]) -> mopsienna_sys::Reply {
-        mopsienna_sys::read_list(self.store.bytes(), self.head().0, pages, entries)
+    fn read_into(&self, pages: &mut [u32], entries: &mut [u32]) -> Reply {
+        Form::Fixed.read_list(self.store.bytes(), self.head().0, pages, entries)
     }
 
     fn read_file(&self) -> FreeList {

@@ -6,7 +6,7 @@
 
 use crate::timing::{measured, Row, Work};
 use common::Store;
-use mopsienna_sys::{values::lookup_into, UNTOUCHED};
+use mopsienna_sys::{Form, UNTOUCHED};
 use nomt_4096::{beatree::allocator::PageNumber, io::PAGE_SIZE, reader};
 use std::{hint::black_box, io, rc::Rc};
 
@@ -45,7 +45,7 @@ fn looking_up(store: &Rc<Store>, page: u32) -> Work {
         measured(|| {
             for _ in 0..calls {
                 let page = black_box(page);
-                black_box(lookup_into(
+                black_box(Form::Fixed.lookup_into(
                     &NUMBERS,
                     &pending,
                     store.bytes(),

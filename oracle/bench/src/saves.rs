@@ -13,7 +13,7 @@
 
 use crate::timing::{measured, Row, Work};
 use common::{lists::CAPACITY, memory_file};
-use mopsienna_sys::{Lent, Out, Save, UNTOUCHED};
+use mopsienna_sys::{Form, Lent, Out, Save, UNTOUCHED};
 use nomt_4096::{
     beatree::allocator::{
         probe::{
@@ -133,7 +133,7 @@ impl Case {
 
         let mut lent = self.lent(written.len());
         self.restore(&mut lent);
-        let reply = mopsienna_sys::finish(&self.save(), &self.freed, &mut lent);
+        let reply = Form::Fixed.finish(&self.save(), &self.freed, &mut lent);
         assert_eq!(reply.number, 0);
         assert_eq!(reply.out[1], bump.0.into());
         assert_eq!(reply.out[5], written.len() as u64);
@@ -154,7 +154,7 @@ impl Case {
             let save = case.save();
             measured(|| {
                 for lent in &mut prepared {
-                    black_box(mopsienna_sys::finish(&save, &case.freed, lent));
+                    black_box(Form::Fixed.finish(&save, &case.freed, lent));
                     black_box(lent);
                 }
             })
@@ -181,7 +181,7 @@ impl Case {
 
     /// The next number by the library; the save goes on with its count and length.
     fn hand_out(&self, save: &mut Save, out: &mut Out) -> u64 {
-        mopsienna_sys::hand_out_into(save, &self.pages, &self.entries, out);
+        Form::Fixed.hand_out_into(save, &self.pages, &self.entries, out);
         save.count = out[1];
         save.length = out[2] as u32;
         out[0]

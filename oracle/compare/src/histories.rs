@@ -9,7 +9,6 @@ mod history;
 mod save;
 
 use crate::{
-    form::Form,
     record::Recorder,
     report::Report,
     saves::{self, model as save_model},
@@ -18,6 +17,7 @@ use crate::{
 };
 use common::Random;
 use history::History;
+use mopsienna_sys::Form;
 use nomt_plain::Values;
 use std::{collections::BTreeMap, io};
 
@@ -121,10 +121,7 @@ struct Comparison<'a> {
 impl Comparison<'_> {
     /// Histories of so many saves altogether. Later ones are longer.
     fn at<R: Values>(&mut self, form: Form, seed: u64, saves: u64) -> io::Result<()> {
-        let group = match form {
-            Form::Fixed => "libmopsienna, histories".into(),
-            Form::Sized(size) => format!("page size {size:4}, histories"),
-        };
+        let group = format!("{form}, histories");
         self.saves.group.clone_from(&group);
         self.values.group = group;
         let mut random = Random::new(seed ^ 0x415);

@@ -15,11 +15,11 @@ mod library;
 pub mod model;
 mod states;
 
-use crate::{form::Form, record::Recorder, report::Report, Plan};
+use crate::{record::Recorder, report::Report, Plan};
 use common::Random;
 use kinds::KINDS;
 use model::After;
-use mopsienna_sys::{sized::NO_PAGE_SIZE, Save};
+use mopsienna_sys::{Form, Save, NO_PAGE_SIZE};
 use nomt_plain::{Finished, List, Rust, State};
 use std::{collections::BTreeMap, io};
 
@@ -127,18 +127,16 @@ impl<'a> Comparison<'a> {
         seed: u64,
         saves: u64,
     ) -> io::Result<()> {
-        self.group = format!("page size {size:4}, every save up to {most_pages} pages");
+        let form = Form::Sized(size);
+        self.group = format!("{form}, every save up to {most_pages} pages");
         let mut random = Random::new(seed);
-        history::every::<R>(self, Form::Sized(size), most_pages, &mut random)?;
-        self.random::<R>(Form::Sized(size), seed, saves)
+        history::every::<R>(self, form, most_pages, &mut random)?;
+        self.random::<R>(form, seed, saves)
     }
 
     /// Random histories of so many saves altogether, and as many random states.
     fn random<R: Rust>(&mut self, form: Form, seed: u64, saves: u64) -> io::Result<()> {
-        self.group = match form {
-            Form::Fixed => "libmopsienna, random".into(),
-            Form::Sized(size) => format!("page size {size:4}, random"),
-        };
+        self.group = format!("{form}, random");
         history::each::<R>(self, form, seed, saves)?;
         states::each::<R>(self, form, seed, saves)
     }

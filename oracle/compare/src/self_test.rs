@@ -12,7 +12,7 @@ use crate::{
     Plan,
 };
 use changed::Changed;
-use mopsienna_sys::{self as library, Reply};
+use mopsienna_sys::{self as library, Form, Reply};
 use std::{
     cell::{Cell, RefCell},
     collections::BTreeMap,
@@ -107,7 +107,7 @@ fn list_calls(plan: &Plan) -> io::Result<BTreeMap<u32, u64>> {
     let calls = Cell::new(0);
     let first = RefCell::new(BTreeMap::new());
     lists::compare(plan, |store, head, pages, entries| {
-        let reply = library::read_list(store, head, pages, entries);
+        let reply = Form::Fixed.read_list(store, head, pages, entries);
         let call = calls.replace(calls.get() + 1);
         if !pages.is_empty() && !entries.is_empty() {
             first.borrow_mut().entry(reply.number).or_insert(call);
@@ -165,7 +165,7 @@ fn at<const N: usize>(operation: usize, reports: [Report; N]) -> Report {
 fn compare_lists_changed(plan: &Plan, call: u64, part: usize) -> io::Result<Report> {
     let calls = Cell::new(0);
     lists::compare(plan, |store, head, pages, entries| {
-        let reply = library::read_list(store, head, pages, entries);
+        let reply = Form::Fixed.read_list(store, head, pages, entries);
         let change = calls.replace(calls.get() + 1) == call;
         let place = match part.checked_sub(PARTS) {
             Some(0) => pages.first_mut(),

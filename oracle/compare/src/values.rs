@@ -20,9 +20,9 @@ pub mod model;
 mod walks;
 pub mod written;
 
-use crate::{form::Form, record::Recorder, report::Report, Plan};
+use crate::{record::Recorder, report::Report, Plan};
 use common::Random;
-use mopsienna_sys::sized::NO_PAGE_SIZE;
+use mopsienna_sys::{Form, NO_PAGE_SIZE};
 use nomt_plain::Values;
 use std::{collections::BTreeMap, io};
 
@@ -154,20 +154,16 @@ impl<'a> Comparison<'a> {
         seed: u64,
         cases: u64,
     ) -> io::Result<()> {
-        let size = match form {
-            Form::Fixed => "libmopsienna".into(),
-            Form::Sized(size) => format!("page size {size:4}"),
-        };
         let mut random = Random::new(seed);
-        self.group = format!("{size}, harmed");
+        self.group = format!("{form}, harmed");
         fixed::each::<R>(self, form, extent)?;
         damage::random::<R>(self, form, &mut random, cases)?;
-        self.group = format!("{size}, written");
+        self.group = format!("{form}, written");
         written::each::<R>(self, form, extent, &mut random, cases)?;
         written::left_bytes::<R>(self)?;
-        self.group = format!("{size}, other chains");
+        self.group = format!("{form}, other chains");
         chains::each::<R>(self, form, &mut random, cases)?;
-        self.group = format!("{size}, any pages");
+        self.group = format!("{form}, any pages");
         chains::tangles::<R>(self, form, &mut random, cases)?;
         cells::each::<R>(self, &mut random, cases);
         lookups::fixed::<R>(self, form)?;
@@ -182,10 +178,11 @@ impl<'a> Comparison<'a> {
         seed: u64,
         cases: u64,
     ) -> io::Result<()> {
+        let form = Form::Sized(size);
         let mut random = Random::new(seed);
-        self.group = format!("page size {size:4}, every harm");
-        damage::every::<R>(self, Form::Sized(size), extent, &mut random)?;
-        self.at::<R>(Form::Sized(size), extent, seed, cases)
+        self.group = format!("{form}, every harm");
+        damage::every::<R>(self, form, extent, &mut random)?;
+        self.at::<R>(form, extent, seed, cases)
     }
 
     /// Adds what was reached, and a disagreement for each of these replies that was not.

@@ -2,9 +2,9 @@
 
 use crate::{
     disk::{Disk, Write},
-    library::Library,
     save::{next, Finished, Load, State},
 };
+use mopsienna_sys::Form;
 use random::Random;
 use std::fmt;
 
@@ -43,7 +43,7 @@ impl fmt::Display for Tally {
 }
 
 pub struct Plan {
-    pub size: usize,
+    pub form: Form,
     pub saves: u64,
     /// Random cuts of a save that is too long to be cut in every way.
     pub cuts: u64,
@@ -52,14 +52,14 @@ pub struct Plan {
 
 /// Makes a history of saves from an empty store and cuts each of them.
 pub fn run(plan: &Plan, seed: u64) -> Tally {
-    let library = Library { size: plan.size };
+    let size = plan.form.page_size();
     let mut random = Random::new(seed);
-    let mut disk = Disk::new(plan.size, 1);
+    let mut disk = Disk::new(size, 1);
     let mut state = State::empty();
     let mut tally = Tally::default();
     for number in 0..plan.saves {
-        let load = load(plan.size, state.values.len(), &mut random);
-        let finished = next(library, &state, &disk, &load, &mut random);
+        let load = load(size, state.values.len(), &mut random);
+        let finished = next(plan.form, &state, &disk, &load, &mut random);
         let writes = harmed(plan.harm, &state, &finished);
         tally.saves += 1;
         tally.most_writes = tally.most_writes.max(writes.len());
@@ -72,7 +72,7 @@ pub fn run(plan: &Plan, seed: u64) -> Tally {
             &mut tally,
             number,
         );
-        go_on(library, &mut state, finished, &mut disk, &mut random);
+        go_on(plan.form, &mut state, finished, &mut disk, &mut random);
     }
     tally
 }
@@ -119,6 +119,7 @@ fn cut(
     tally: &mut Tally,
     save: u64,
 ) {
+    let size = plan.form.page_size();
     let every = writes.len() <= ALL_SUBSETS;
     tally.in_every_way += u64::from(every);
     let count = if every { 1 << writes.len() } else { plan.cuts };
@@ -129,19 +130,15 @@ fn cut(
             some(writes, random)
         };
         let order = shuffled(chosen, random);
-        let mut extra = vec![0; random.below(3 * plan.size as u64) as usize];
+        let mut extra = vec![0; random.below(3 * size as u64) as usize];
         random.fill(&mut extra);
-        let library = Library { size: plan.size };
         let undo = disk.cut(&extra, &order);
         tally.cuts += 1;
-        if !state.reads(library, &disk.store) {
+        if !state.reads(plan.form, &disk.store) {
             tally.lost += 1;
             let numbers: Vec<u32> = order.iter().map(|write| write.number).collect();
             tally.first_loss.get_or_insert_with(|| {
-                format!(
-                    "page size {}, save {save}, pages written: {numbers:?}",
-                    plan.size
-                )
+                format!("page size {size}, save {save}, pages written: {numbers:?}")
             });
         }
         disk.take_back(undo);
@@ -171,13 +168,7 @@ fn shuffled<'a>(mut writes: Vec<&'a Write>, random: &mut Random) -> Vec<&'a Writ
 }
 
 /// Goes on from the old head after a cut, or from the new one after all is written.
-fn go_on(
-    library: Library,
-    state: &mut State,
-    finished: Finished,
-    disk: &mut Disk,
-    random: &mut Random,
-) {
+fn go_on(form: Form, state: &mut State, finished: Finished, disk: &mut Disk, random: &mut Random) {
     let back = random.below(4) == 0;
     let order = if back {
         shuffled(some(&finished.writes, random), random)
@@ -189,13 +180,13 @@ fn go_on(
         return;
     }
     // The host makes the store as long as recorded, so that freed numbers past its end are pages of it.
-    let recorded = library.size * finished.next.bump as usize;
+    let recorded = form.page_size() * finished.next.bump as usize;
     if disk.store.len() < recorded {
         disk.store.resize(recorded, 0);
     }
     *state = finished.next;
     assert!(
-        state.reads(library, &disk.store),
+        state.reads(form, &disk.store),
         "a save that was written whole reads"
     );
 }

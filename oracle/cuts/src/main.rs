@@ -5,10 +5,11 @@
 
 mod disk;
 mod history;
-mod library;
 mod save;
+mod values;
 
 use history::{run, Harm, Plan, Tally};
+use mopsienna_sys::Form;
 use std::{env, process::ExitCode};
 
 const USAGE: &str = "\
@@ -58,7 +59,7 @@ fn cuts(options: &Options) -> bool {
     for (size, saves, histories, cuts) in SIZES {
         let histories = if options.short { 1 } else { histories };
         let plan = Plan {
-            size,
+            form: Form::at(size),
             saves,
             cuts,
             harm: Harm::None,
@@ -86,7 +87,7 @@ fn self_test(seed: u64) -> bool {
     let mut caught = true;
     for (harm, name) in harms {
         let plan = Plan {
-            size: 16,
+            form: Form::at(16),
             saves: 60,
             cuts: 20,
             harm,

@@ -2,9 +2,9 @@
 
 use crate::{
     disk::{Disk, Write},
-    library::Library,
+    values::{cell, total},
 };
-use mopsienna_sys::{Lent, Save};
+use mopsienna_sys::{Form, Lent, Save};
 use random::Random;
 
 /// A value: its cell, the numbers of its pages and its bytes.
@@ -52,10 +52,10 @@ impl State {
     }
 
     /// Whether the head and the cells read exactly this from the store.
-    pub fn reads(&self, library: Library, store: &[u8]) -> bool {
+    pub fn reads(&self, form: Form, store: &[u8]) -> bool {
         let mut pages = vec![FILLER; self.pages.len() + 1];
         let mut entries = vec![FILLER; self.entries.len() + 1];
-        let reply = library.read_list(store, self.head, &mut pages, &mut entries);
+        let reply = form.read_list(store, self.head, &mut pages, &mut entries);
         let counts = [self.pages.len() as u64, self.entries.len() as u64];
         reply.number == 0
             && reply.out[..2] == counts
@@ -63,15 +63,15 @@ impl State {
             && entries[..self.entries.len()] == self.entries[..]
             && pages[self.pages.len()] == FILLER
             && entries[self.entries.len()] == FILLER
-            && self.values.iter().all(|value| value.reads(library, store))
+            && self.values.iter().all(|value| value.reads(form, store))
     }
 }
 
 impl Value {
-    fn reads(&self, library: Library, store: &[u8]) -> bool {
+    fn reads(&self, form: Form, store: &[u8]) -> bool {
         let mut numbers = vec![FILLER; self.numbers.len()];
         let mut bytes = vec![0xA5; self.bytes.len() + 1];
-        let reply = library.read_value(&self.cell, store, &mut numbers, &mut bytes);
+        let reply = form.read_value(&self.cell, store, &mut numbers, &mut bytes);
         reply.number == 0
             && numbers == self.numbers
             && bytes[..self.bytes.len()] == self.bytes[..]
@@ -81,7 +81,7 @@ impl Value {
 
 /// A save that is under way.
 struct Open<'a> {
-    library: Library,
+    form: Form,
     save: Save,
     lent: Lent,
     random: &'a mut Random,
@@ -101,14 +101,8 @@ pub struct Load {
 }
 
 /// Makes one more save upon a state: some values go, some come, and it is finished.
-pub fn next(
-    library: Library,
-    state: &State,
-    disk: &Disk,
-    load: &Load,
-    random: &mut Random,
-) -> Finished {
-    let mut open = Open::start(library, state, disk, random);
+pub fn next(form: Form, state: &State, disk: &Disk, load: &Load, random: &mut Random) -> Finished {
+    let mut open = Open::start(form, state, disk, random);
     let mut values = state.values.clone();
     for _ in 0..load.deleted {
         if !values.is_empty() {
@@ -129,13 +123,13 @@ pub fn next(
 
 impl<'a> Open<'a> {
     /// Starts from the state; the tables come from the store, with some places more.
-    fn start(library: Library, state: &State, disk: &Disk, random: &'a mut Random) -> Open<'a> {
+    fn start(form: Form, state: &State, disk: &Disk, random: &'a mut Random) -> Open<'a> {
         let mut pages = vec![FILLER; state.pages.len() + 4];
         let mut entries = vec![FILLER; state.entries.len() + 4];
-        let reply = library.read_list(&disk.store, state.head, &mut pages, &mut entries);
+        let reply = form.read_list(&disk.store, state.head, &mut pages, &mut entries);
         assert_eq!(reply.number, 0, "a list that was saved is read");
         Open {
-            library,
+            form,
             save: Save {
                 bump: state.bump,
                 length: state.length,
@@ -157,7 +151,7 @@ impl<'a> Open<'a> {
 
     fn hand_out(&mut self) -> u32 {
         let reply = self
-            .library
+            .form
             .hand_out(&self.save, &self.lent.pages, &self.lent.entries);
         assert_eq!(reply.number, 0, "a number is handed out");
         self.save.count = reply.out[1];
@@ -168,12 +162,12 @@ impl<'a> Open<'a> {
     fn write(&mut self, size: usize) -> Value {
         let mut bytes = vec![0; size];
         self.random.fill(&mut bytes);
-        let total = self.library.total(size);
+        let total = total(self.form.page_size(), size);
         let numbers: Vec<u32> = (0..total).map(|_| self.hand_out()).collect();
         for (index, number) in numbers.iter().enumerate() {
-            let mut page = vec![0xA5; self.library.size];
+            let mut page = vec![0xA5; self.form.page_size()];
             let reply = self
-                .library
+                .form
                 .write_value_page(&bytes, &numbers, index as u64, &mut page);
             assert_eq!(reply.number, 0, "a value page is written");
             self.writes.push(Write {
@@ -181,7 +175,7 @@ impl<'a> Open<'a> {
                 bytes: page,
             });
         }
-        let cell = self.library.cell(size, &numbers);
+        let cell = cell(size, &numbers);
         Value {
             cell,
             numbers,
@@ -191,7 +185,7 @@ impl<'a> Open<'a> {
 
     fn delete(&mut self, value: &Value, store: &[u8]) {
         let mut numbers = vec![FILLER; value.numbers.len()];
-        let reply = self.library.delete_value(&value.cell, store, &mut numbers);
+        let reply = self.form.delete_value(&value.cell, store, &mut numbers);
         assert_eq!(reply.number, 0, "a value that was saved is deleted");
         assert!(numbers == value.numbers, "deleting finds the value's pages");
         self.freed.extend(numbers);
@@ -199,7 +193,7 @@ impl<'a> Open<'a> {
 
     fn spoil(&mut self) {
         let number = self.hand_out();
-        let mut bytes = vec![0; self.library.size];
+        let mut bytes = vec![0; self.form.page_size()];
         self.random.fill(&mut bytes);
         self.writes.push(Write { number, bytes });
         self.freed.push(number);
@@ -207,10 +201,10 @@ impl<'a> Open<'a> {
 
     /// Finishes, at first with too little room, which is refused and changes nothing.
     fn finish(mut self, values: Vec<Value>) -> Finished {
-        let size = self.library.size;
+        let size = self.form.page_size();
         let room = self.lent.pages.len() + self.freed.len() + 8;
         let before = self.lent.clone();
-        let refused = self.library.finish(&self.save, &self.freed, &mut self.lent);
+        let refused = self.form.finish(&self.save, &self.freed, &mut self.lent);
         let enough = refused.number == 0;
         assert!(
             enough || (refused.number == 6 || refused.number == 9) && self.lent == before,
@@ -225,7 +219,7 @@ impl<'a> Open<'a> {
                 .resize(self.lent.entries.len() + self.freed.len() + room, FILLER);
             self.lent.buffer.resize(size * room, 0xA5);
             self.lent.numbers.resize(room, FILLER);
-            self.library.finish(&self.save, &self.freed, &mut self.lent)
+            self.form.finish(&self.save, &self.freed, &mut self.lent)
         };
         assert_eq!(reply.number, 0, "a finish with room succeeds");
         let [head, bump, length, pages, entries, written, ..] = reply.out;

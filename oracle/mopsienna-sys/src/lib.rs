@@ -1,10 +1,14 @@
-//! The C functions of libmopsienna, each as a safe function.
+//! The C functions of libmopsienna and libsized, each as a safe function.
 //!
-//! The functions of libsized are those of lists, saves and values at any page size; modules of
-//! their own hold them.
+//! The functions of libsized are those of lists, saves and values at any page size. What both
+//! libraries have is declared once, and is a method of [`Form`].
 
+mod form;
 pub mod values;
 
+pub use form::{Form, NO_PAGE_SIZE};
+
+use form::{call, in_both};
 use std::fmt;
 
 /// The eight places in which a function puts its answer or the values of its refusal.
@@ -71,7 +75,10 @@ impl fmt::Display for Reply {
 extern "C" {
     fn mopsienna_grow(page: u32, out: &mut Out) -> u32;
     fn mopsienna_total(size: u64, out: &mut Out) -> u32;
-    fn mopsienna_read_list(
+}
+
+in_both! {
+    fn read_list(
         store: *const u8,
         store_len: usize,
         head: u32,
@@ -81,7 +88,7 @@ extern "C" {
         entries_len: usize,
         out: &mut Out,
     ) -> u32;
-    fn mopsienna_hand_out(
+    fn hand_out(
         bump: u32,
         length: u32,
         list_pages: u64,
@@ -93,7 +100,7 @@ extern "C" {
         entries_len: usize,
         out: &mut Out,
     ) -> u32;
-    fn mopsienna_finish(
+    fn finish(
         bump: u32,
         length: u32,
         list_pages: u64,
@@ -145,192 +152,89 @@ pub fn total(size: u64) -> Reply {
     Reply::of(|out| unsafe { mopsienna_total(size, out) })
 }
 
-/// Reads a list into the two tables. Answers how many pages and entries it has.
-pub fn read_list(store: &[u8], head: u32, pages: &mut [u32], entries: &mut [u32]) -> Reply {
-    // SAFETY: the function reads only the store, and writes only to the tables and to the eight
-    // places of `out`.
-    Reply::of(|out| unsafe {
-        mopsienna_read_list(
-            store.as_ptr(),
-            store.len(),
-            head,
-            pages.as_mut_ptr(),
-            pages.len(),
-            entries.as_mut_ptr(),
-            entries.len(),
-            out,
-        )
-    })
-}
-
-/// Hands out the next number. Answers it, the count after it and the recorded length after it.
-pub fn hand_out(save: &Save, pages: &[u32], entries: &[u32]) -> Reply {
-    Reply::of(|out| hand_out_into(save, pages, entries, out))
-}
-
-/// The same into places that are there already: 0 or the refusal's number.
-#[inline]
-pub fn hand_out_into(save: &Save, pages: &[u32], entries: &[u32], out: &mut Out) -> u32 {
-    // SAFETY: the function reads only the tables, and writes only to the eight places of `out`.
-    unsafe {
-        mopsienna_hand_out(
-            save.bump,
-            save.length,
-            save.pages,
-            save.entries,
-            save.count,
-            pages.as_ptr(),
-            pages.len(),
-            entries.as_ptr(),
-            entries.len(),
-            out,
-        )
-    }
-}
-
-/// Finishes the save. Answers the head, the bump, the recorded length, the pages and the entries of
-/// the new list and how many pages are to be written.
-pub fn finish(save: &Save, freed: &[u32], lent: &mut Lent) -> Reply {
-    // SAFETY: the function reads only what it is lent, and writes only to the tables, the buffer,
-    // the numbers and the eight places of `out`.
-    Reply::of(|out| unsafe {
-        mopsienna_finish(
-            save.bump,
-            save.length,
-            save.pages,
-            save.entries,
-            save.count,
-            lent.pages.as_mut_ptr(),
-            lent.pages.len(),
-            lent.entries.as_mut_ptr(),
-            lent.entries.len(),
-            freed.as_ptr(),
-            freed.len(),
-            lent.buffer.as_mut_ptr(),
-            lent.buffer.len(),
-            lent.numbers.as_mut_ptr(),
-            lent.numbers.len(),
-            out,
-        )
-    })
-}
-
-/// The same at a page size that is given with each call.
-pub mod sized {
-    use super::{Lent, Out, Reply, Save};
-
-    /// What a call gives for a number that is no page size.
-    pub const NO_PAGE_SIZE: u32 = 255;
-
-    extern "C" {
-        fn sized_read_list(
-            size: u64,
-            store: *const u8,
-            store_len: usize,
-            head: u32,
-            pages: *mut u32,
-            pages_len: usize,
-            entries: *mut u32,
-            entries_len: usize,
-            out: &mut Out,
-        ) -> u32;
-        fn sized_hand_out(
-            size: u64,
-            bump: u32,
-            length: u32,
-            list_pages: u64,
-            list_entries: u64,
-            count: u64,
-            pages: *const u32,
-            pages_len: usize,
-            entries: *const u32,
-            entries_len: usize,
-            out: &mut Out,
-        ) -> u32;
-        fn sized_finish(
-            size: u64,
-            bump: u32,
-            length: u32,
-            list_pages: u64,
-            list_entries: u64,
-            count: u64,
-            pages: *mut u32,
-            pages_len: usize,
-            entries: *mut u32,
-            entries_len: usize,
-            freed: *const u32,
-            freed_len: usize,
-            buffer: *mut u8,
-            buffer_len: usize,
-            numbers: *mut u32,
-            numbers_len: usize,
-            out: &mut Out,
-        ) -> u32;
-    }
-
+/// Lists and saves.
+impl Form {
+    /// Reads a list into the two tables. Answers how many pages and entries it has.
     pub fn read_list(
-        size: u64,
+        self,
         store: &[u8],
         head: u32,
         pages: &mut [u32],
         entries: &mut [u32],
     ) -> Reply {
-        // SAFETY: as for the function of the same name without a page size.
+        // SAFETY: the function reads only the store, and writes only to the tables and to the eight
+        // places of `out`.
         Reply::of(|out| unsafe {
-            sized_read_list(
-                size,
-                store.as_ptr(),
-                store.len(),
-                head,
-                pages.as_mut_ptr(),
-                pages.len(),
-                entries.as_mut_ptr(),
-                entries.len(),
-                out,
+            call!(
+                self,
+                read_list(
+                    store.as_ptr(),
+                    store.len(),
+                    head,
+                    pages.as_mut_ptr(),
+                    pages.len(),
+                    entries.as_mut_ptr(),
+                    entries.len(),
+                    out,
+                )
             )
         })
     }
 
-    pub fn hand_out(size: u64, save: &Save, pages: &[u32], entries: &[u32]) -> Reply {
-        // SAFETY: as for the function of the same name without a page size.
-        Reply::of(|out| unsafe {
-            sized_hand_out(
-                size,
-                save.bump,
-                save.length,
-                save.pages,
-                save.entries,
-                save.count,
-                pages.as_ptr(),
-                pages.len(),
-                entries.as_ptr(),
-                entries.len(),
-                out,
-            )
-        })
+    /// Hands out the next number. Answers it, the count after it and the recorded length after it.
+    pub fn hand_out(self, save: &Save, pages: &[u32], entries: &[u32]) -> Reply {
+        Reply::of(|out| self.hand_out_into(save, pages, entries, out))
     }
 
-    pub fn finish(size: u64, save: &Save, freed: &[u32], lent: &mut Lent) -> Reply {
-        // SAFETY: as for the function of the same name without a page size.
+    /// The same into places that are there already: 0 or the refusal's number.
+    #[inline]
+    pub fn hand_out_into(self, save: &Save, pages: &[u32], entries: &[u32], out: &mut Out) -> u32 {
+        // SAFETY: the function reads only the tables, and writes only to the eight places of `out`.
+        unsafe {
+            call!(
+                self,
+                hand_out(
+                    save.bump,
+                    save.length,
+                    save.pages,
+                    save.entries,
+                    save.count,
+                    pages.as_ptr(),
+                    pages.len(),
+                    entries.as_ptr(),
+                    entries.len(),
+                    out,
+                )
+            )
+        }
+    }
+
+    /// Finishes the save. Answers the head, the bump, the recorded length, the pages and the entries
+    /// of the new list and how many pages are to be written.
+    pub fn finish(self, save: &Save, freed: &[u32], lent: &mut Lent) -> Reply {
+        // SAFETY: the function reads only what it is lent, and writes only to the tables, the
+        // buffer, the numbers and the eight places of `out`.
         Reply::of(|out| unsafe {
-            sized_finish(
-                size,
-                save.bump,
-                save.length,
-                save.pages,
-                save.entries,
-                save.count,
-                lent.pages.as_mut_ptr(),
-                lent.pages.len(),
-                lent.entries.as_mut_ptr(),
-                lent.entries.len(),
-                freed.as_ptr(),
-                freed.len(),
-                lent.buffer.as_mut_ptr(),
-                lent.buffer.len(),
-                lent.numbers.as_mut_ptr(),
-                lent.numbers.len(),
-                out,
+            call!(
+                self,
+                finish(
+                    save.bump,
+                    save.length,
+                    save.pages,
+                    save.entries,
+                    save.count,
+                    lent.pages.as_mut_ptr(),
+                    lent.pages.len(),
+                    lent.entries.as_mut_ptr(),
+                    lent.entries.len(),
+                    freed.as_ptr(),
+                    freed.len(),
+                    lent.buffer.as_mut_ptr(),
+                    lent.buffer.len(),
+                    lent.numbers.as_mut_ptr(),
+                    lent.numbers.len(),
+                    out,
+                )
             )
         })
     }

@@ -2,7 +2,7 @@
 
 use crate::timing::{measured, Work};
 use common::{memory_file, Random, Store};
-use mopsienna_sys::values as library;
+use mopsienna_sys::Form;
 use nomt_4096::{
     beatree::{
         allocator::{
@@ -63,19 +63,20 @@ impl Value {
         let mut page = vec![1; PAGE_SIZE];
         for (index, (_, bytes)) in pages.iter().enumerate() {
             let reply =
-                library::write_value_page(&self.bytes, &self.numbers, index as u64, &mut page);
+                Form::Fixed.write_value_page(&self.bytes, &self.numbers, index as u64, &mut page);
             assert_eq!(reply.number, 0);
             assert!(page == *bytes);
         }
         let (mut numbers, mut bytes) = self.room();
-        let reply = library::read_value(&self.cell, self.store.bytes(), &mut numbers, &mut bytes);
+        let reply =
+            Form::Fixed.read_value(&self.cell, self.store.bytes(), &mut numbers, &mut bytes);
         assert_eq!(reply.number, 0);
         assert!(numbers == self.numbers && bytes == self.bytes);
         assert!(self.bytes == read_blocking(&self.cell, &self.reader));
         assert!(self.bytes == self.parse(&self.read_pages()));
 
         numbers.fill(0);
-        let reply = library::delete_value(&self.cell, self.store.bytes(), &mut numbers);
+        let reply = Form::Fixed.delete_value(&self.cell, self.store.bytes(), &mut numbers);
         assert_eq!(reply.number, 0);
         assert!(numbers == self.numbers);
         let freed = self.delete();
@@ -97,12 +98,7 @@ impl Value {
                     for index in 0..value.numbers.len() {
                         let page = &mut buffer[index % room * PAGE_SIZE..][..PAGE_SIZE];
                         let (bytes, numbers) = (&value.bytes, &value.numbers);
-                        black_box(library::write_value_page(
-                            bytes,
-                            numbers,
-                            index as u64,
-                            page,
-                        ));
+                        black_box(Form::Fixed.write_value_page(bytes, numbers, index as u64, page));
                         black_box(page);
                     }
                 }
@@ -157,12 +153,7 @@ impl Value {
             measured(|| {
                 for _ in 0..calls {
                     let store = value.store.bytes();
-                    black_box(library::read_value(
-                        &value.cell,
-                        store,
-                        &mut numbers,
-                        &mut bytes,
-                    ));
+                    black_box(Form::Fixed.read_value(&value.cell, store, &mut numbers, &mut bytes));
                     black_box((&mut numbers, &mut bytes));
                 }
             })
@@ -220,7 +211,7 @@ impl Value {
             measured(|| {
                 for _ in 0..calls {
                     let store = value.store.bytes();
-                    black_box(library::delete_value(&value.cell, store, &mut numbers));
+                    black_box(Form::Fixed.delete_value(&value.cell, store, &mut numbers));
                     black_box(&mut numbers);
                 }
             })

@@ -2,7 +2,6 @@
 
 use super::{save::Open, Comparison, Event};
 use crate::{
-    form::Form,
     saves::model::After,
     values::{
         case::Case,
@@ -11,6 +10,7 @@ use crate::{
     },
 };
 use common::{Random, Store};
+use mopsienna_sys::Form;
 use nomt_plain::{State, Values};
 use std::{io, rc::Rc};
 

@@ -10,7 +10,7 @@ use crate::{
     report::difference,
 };
 use common::Random;
-use mopsienna_sys::{sized::NO_PAGE_SIZE, Lent, Reply, Save};
+use mopsienna_sys::{Lent, Reply, Save, NO_PAGE_SIZE};
 use nomt_plain::{Held, List, Rust};
 use std::io;
 

@@ -1,7 +1,6 @@
 //! The library's functions of lists and saves, with and without a page size.
 
-use crate::form::Form;
-use mopsienna_sys::{self as linked, sized, Lent, Reply, Save};
+use mopsienna_sys::{Form, Lent, Reply, Save};
 
 pub trait Library {
     fn read_list(
@@ -30,23 +29,14 @@ impl Library for Linked {
         pages: &mut [u32],
         entries: &mut [u32],
     ) -> Reply {
-        match form {
-            Form::Fixed => linked::read_list(store, head, pages, entries),
-            Form::Sized(size) => sized::read_list(size, store, head, pages, entries),
-        }
+        form.read_list(store, head, pages, entries)
     }
 
     fn hand_out(&self, form: Form, save: &Save, pages: &[u32], entries: &[u32]) -> Reply {
-        match form {
-            Form::Fixed => linked::hand_out(save, pages, entries),
-            Form::Sized(size) => sized::hand_out(size, save, pages, entries),
-        }
+        form.hand_out(save, pages, entries)
     }
 
     fn finish(&self, form: Form, save: &Save, freed: &[u32], lent: &mut Lent) -> Reply {
-        match form {
-            Form::Fixed => linked::finish(save, freed, lent),
-            Form::Sized(size) => sized::finish(size, save, freed, lent),
-        }
+        form.finish(save, freed, lent)
     }
 }

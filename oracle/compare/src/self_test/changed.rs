@@ -2,11 +2,13 @@
 
 use super::{changed_if, PARTS};
 use crate::{
-    form::Form,
     saves::{self, FINISH, HAND_OUT, READ_BACK},
     values::{self, DECODE, DELETE, ENCODE, LOOKUP, READ, WRITE},
 };
-use mopsienna_sys::{values::Hash, Lent, Reply, Save};
+use mopsienna_sys::{
+    values::{decode_cell, encode_cell, Hash},
+    Form, Lent, Reply, Save,
+};
 use std::{
     cell::{Cell, RefCell},
     collections::BTreeMap,
@@ -69,7 +71,7 @@ impl saves::Library for Changed {
         pages: &mut [u32],
         entries: &mut [u32],
     ) -> Reply {
-        let reply = saves::Linked.read_list(form, store, head, pages, entries);
+        let reply = form.read_list(store, head, pages, entries);
         self.pass(READ_BACK, reply, true, |part| match part {
             0 | 1 => change_end(pages, part),
             _ => change_end(entries, part),
@@ -77,12 +79,12 @@ impl saves::Library for Changed {
     }
 
     fn hand_out(&self, form: Form, save: &Save, pages: &[u32], entries: &[u32]) -> Reply {
-        let reply = saves::Linked.hand_out(form, save, pages, entries);
+        let reply = form.hand_out(save, pages, entries);
         self.pass(HAND_OUT, reply, true, |_| ())
     }
 
     fn finish(&self, form: Form, save: &Save, freed: &[u32], lent: &mut Lent) -> Reply {
-        let reply = saves::Linked.finish(form, save, freed, lent);
+        let reply = form.finish(save, freed, lent);
         let lengths = [
             lent.pages.len(),
             lent.entries.len(),
@@ -108,21 +110,21 @@ impl values::Library for Changed {
         index: u64,
         page: &mut [u8],
     ) -> Reply {
-        let reply = values::Linked.write_value_page(form, value, numbers, index, page);
+        let reply = form.write_value_page(value, numbers, index, page);
         self.pass(WRITE, reply, !page.is_empty(), |part| {
             change_end(page, part)
         })
     }
 
     fn encode_cell(&self, size: u64, hash: &Hash, numbers: &[u32], cell: &mut [u8]) -> Reply {
-        let reply = values::Linked.encode_cell(size, hash, numbers, cell);
+        let reply = encode_cell(size, hash, numbers, cell);
         self.pass(ENCODE, reply, !cell.is_empty(), |part| {
             change_end(cell, part)
         })
     }
 
     fn decode_cell(&self, cell: &[u8], hash: &mut Hash) -> Reply {
-        let reply = values::Linked.decode_cell(cell, hash);
+        let reply = decode_cell(cell, hash);
         self.pass(DECODE, reply, true, |part| change_end(hash, part))
     }
 
@@ -134,7 +136,7 @@ impl values::Library for Changed {
         numbers: &mut [u32],
         value: &mut [u8],
     ) -> Reply {
-        let reply = values::Linked.read_value(form, cell, store, numbers, value);
+        let reply = form.read_value(cell, store, numbers, value);
         let places = !numbers.is_empty() && !value.is_empty();
         self.pass(READ, reply, places, |part| match part {
             0 | 1 => change_end(numbers, part),
@@ -143,7 +145,7 @@ impl values::Library for Changed {
     }
 
     fn delete_value(&self, form: Form, cell: &[u8], store: &[u8], numbers: &mut [u32]) -> Reply {
-        let reply = values::Linked.delete_value(form, cell, store, numbers);
+        let reply = form.delete_value(cell, store, numbers);
         let places = !numbers.is_empty();
         self.pass(DELETE, reply, places, |part| change_end(numbers, part))
     }
@@ -156,7 +158,7 @@ impl values::Library for Changed {
         store: &[u8],
         page: u32,
     ) -> Reply {
-        let reply = values::Linked.lookup(form, numbers, pending, store, page);
+        let reply = form.lookup(numbers, pending, store, page);
         self.pass(LOOKUP, reply, true, |_| ())
     }
 }

@@ -6,12 +6,11 @@ use super::{
     model, Comparison, DECODE, DELETE, ENCODE, LOOKUP, READ, WRITE,
 };
 use crate::{
-    form::Form,
     panics::unless_panic,
     record::{Kind, Line},
     report::difference,
 };
-use mopsienna_sys::{sized::NO_PAGE_SIZE, values::Hash, Reply};
+use mopsienna_sys::{values::Hash, Form, Reply, NO_PAGE_SIZE};
 use nomt_plain::Values;
 
 /// The hash before a call.

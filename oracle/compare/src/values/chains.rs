@@ -6,8 +6,8 @@ use super::{
     model::{self, last_size, total},
     Comparison, READ,
 };
-use crate::form::Form;
 use common::Random;
+use mopsienna_sys::Form;
 use nomt_plain::Values;
 use std::io;
 

@@ -8,8 +8,8 @@ use super::{
     model::{last_size, page_count, total, TOO_LARGE},
     Comparison, Extent,
 };
-use crate::form::Form;
 use common::Random;
+use mopsienna_sys::Form;
 use nomt_plain::Values;
 use std::io;
 

@@ -8,7 +8,7 @@ use super::{
     model::{first_filled, last_size, total, CELL_NUMBERS, MAX_SIZE, TOO_LARGE},
     Comparison, Extent,
 };
-use crate::form::Form;
+use mopsienna_sys::Form;
 use nomt_plain::Values;
 use std::io;
 

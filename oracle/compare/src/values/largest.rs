@@ -5,9 +5,9 @@ use super::{
     model::{self, MAX_SIZE},
     Comparison, DELETE, READ, WRITE,
 };
-use crate::{form::Form, panics::unless_panic};
+use crate::panics::unless_panic;
 use common::{Random, Store};
-use mopsienna_sys::Reply;
+use mopsienna_sys::{Form, Reply};
 use nomt_plain::Values;
 use std::io;
 

@@ -1,9 +1,8 @@
 //! The library's functions of values and of page lookup, with and without a page size.
 
-use crate::form::Form;
 use mopsienna_sys::{
-    values::{self as linked, sized, Hash},
-    Reply,
+    values::{self as linked, Hash},
+    Form, Reply,
 };
 
 pub trait Library {
@@ -47,10 +46,7 @@ impl Library for Linked {
         index: u64,
         page: &mut [u8],
     ) -> Reply {
-        match form {
-            Form::Fixed => linked::write_value_page(value, numbers, index, page),
-            Form::Sized(size) => sized::write_value_page(size, value, numbers, index, page),
-        }
+        form.write_value_page(value, numbers, index, page)
     }
 
     fn encode_cell(&self, size: u64, hash: &Hash, numbers: &[u32], cell: &mut [u8]) -> Reply {
@@ -69,17 +65,11 @@ impl Library for Linked {
         numbers: &mut [u32],
         value: &mut [u8],
     ) -> Reply {
-        match form {
-            Form::Fixed => linked::read_value(cell, store, numbers, value),
-            Form::Sized(size) => sized::read_value(size, cell, store, numbers, value),
-        }
+        form.read_value(cell, store, numbers, value)
     }
 
     fn delete_value(&self, form: Form, cell: &[u8], store: &[u8], numbers: &mut [u32]) -> Reply {
-        match form {
-            Form::Fixed => linked::delete_value(cell, store, numbers),
-            Form::Sized(size) => sized::delete_value(size, cell, store, numbers),
-        }
+        form.delete_value(cell, store, numbers)
     }
 
     fn lookup(
@@ -90,9 +80,6 @@ impl Library for Linked {
         store: &[u8],
         page: u32,
     ) -> Reply {
-        match form {
-            Form::Fixed => linked::lookup(numbers, pending, store, page),
-            Form::Sized(size) => sized::lookup(size, numbers, pending, store, page),
-        }
+        form.lookup(numbers, pending, store, page)
     }
 }

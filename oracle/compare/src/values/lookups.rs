@@ -2,9 +2,9 @@
 //! the bytes that the answer names.
 
 use super::{lent::numbers_text, model, Comparison, LOOKUP};
-use crate::{form::Form, panics::unless_panic};
+use crate::panics::unless_panic;
 use common::{Random, Store};
-use mopsienna_sys::Reply;
+use mopsienna_sys::{Form, Reply};
 use nomt_plain::Values;
 use std::io;
 

@@ -7,12 +7,11 @@ use super::{
     Comparison, DELETE, READ,
 };
 use crate::{
-    form::Form,
     panics::unless_panic,
     record::{Kind, Line},
     report::difference,
 };
-use mopsienna_sys::Reply;
+use mopsienna_sys::{Form, Reply};
 use nomt_plain::Values;
 use std::io;
 

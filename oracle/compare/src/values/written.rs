@@ -5,8 +5,9 @@ use super::{
     model::{self, first_filled, last_size, total, CELL_NUMBERS, CELL_START},
     Comparison, Extent, WRITE,
 };
-use crate::{form::Form, panics::unless_panic};
+use crate::panics::unless_panic;
 use common::Random;
+use mopsienna_sys::Form;
 use nomt_plain::{Chunked, Values};
 use std::io;
 
