@@ -14,11 +14,12 @@ mod small;
 
 use crate::{
     report::{difference, Report},
+    saves::Library,
     Plan,
 };
 use case::Case;
 use common::lists::Portions;
-use mopsienna_sys::Reply;
+use mopsienna_sys::{Form, Reply};
 use nomt_4096::{
     beatree::allocator::probe::free_list::{fragmented, portions},
     io::PAGE_SIZE,
@@ -30,10 +31,7 @@ use std::io;
 pub const RANDOM_SHARE: u64 = 20;
 
 /// Compares the library's `read_list`.
-pub fn compare(
-    plan: &Plan,
-    library: impl Fn(&[u8], u32, &mut [u32], &mut [u32]) -> Reply,
-) -> io::Result<Report> {
+pub fn compare(plan: &Plan, library: &dyn Library) -> io::Result<Report> {
     let mut comparison = Comparison {
         library,
         report: Report::new("read_list"),
@@ -56,12 +54,12 @@ pub fn compare(
     Ok(comparison.report)
 }
 
-struct Comparison<L> {
-    library: L,
+struct Comparison<'a> {
+    library: &'a dyn Library,
     report: Report,
 }
 
-impl<L: Fn(&[u8], u32, &mut [u32], &mut [u32]) -> Reply> Comparison<L> {
+impl Comparison<'_> {
     fn check(&mut self, case: &Case) {
         let model = model::read(PAGE_SIZE, case.store.bytes(), case.head);
         self.check_rust(case, &model);
@@ -105,7 +103,8 @@ impl<L: Fn(&[u8], u32, &mut [u32], &mut [u32]) -> Reply> Comparison<L> {
     ) {
         let expected = expected(model, Tables::untouched(pages, entries));
         let mut tables = Tables::untouched(pages, entries);
-        let reply = (self.library)(
+        let reply = self.library.read_list(
+            Form::Fixed,
             case.store.bytes(),
             case.head,
             &mut tables.pages,

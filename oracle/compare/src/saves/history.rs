@@ -31,7 +31,7 @@ pub fn each<R: Rust>(
     let mut made = 0;
     while made < saves {
         let bump = 1 + random.below(40) as u32;
-        let length = pick(&mut random, &[0, bump - 1, bump, bump + 1, 8192]);
+        let length = random.pick(&[0, bump - 1, bump, bump + 1, 8192]);
         let state = State {
             bump,
             length,
@@ -318,8 +318,4 @@ fn any_freed<R: Rust>(history: &History<R>, handed: usize, random: &mut Random) 
             (history.forced(handed, more) + below(3)).saturating_sub(1)
         }
     }
-}
-
-fn pick<T: Copy>(random: &mut Random, from: &[T]) -> T {
-    from[random.below(from.len() as u64) as usize]
 }

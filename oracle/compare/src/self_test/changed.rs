@@ -15,7 +15,7 @@ use std::{
 };
 
 /// The library, with one call of one operation changed. Operations are the reports of the comparison
-/// that it is given to, of saves or of values.
+/// that it is given to, of saves or of values; that of lists has [`READ_BACK`] alone.
 pub struct Changed {
     operation: usize,
     change: Option<(u64, usize)>,
@@ -72,7 +72,8 @@ impl saves::Library for Changed {
         entries: &mut [u32],
     ) -> Reply {
         let reply = form.read_list(store, head, pages, entries);
-        self.pass(READ_BACK, reply, true, |part| match part {
+        let places = !pages.is_empty() && !entries.is_empty();
+        self.pass(READ_BACK, reply, places, |part| match part {
             0 | 1 => change_end(pages, part),
             _ => change_end(entries, part),
         })
