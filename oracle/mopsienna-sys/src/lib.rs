@@ -50,6 +50,7 @@ impl Reply {
     }
 
     /// Makes a call over untouched places.
+    #[inline]
     fn of(call: impl FnOnce(&mut Out) -> u32) -> Reply {
         let mut out = UNTOUCHED;
         let number = call(&mut out);
@@ -152,9 +153,10 @@ pub fn total(size: u64) -> Reply {
     Reply::of(|out| unsafe { mopsienna_total(size, out) })
 }
 
-/// Lists and saves.
+/// Lists and saves. All is inlined, so that where the form is known it costs nothing to choose.
 impl Form {
     /// Reads a list into the two tables. Answers how many pages and entries it has.
+    #[inline]
     pub fn read_list(
         self,
         store: &[u8],
@@ -182,6 +184,7 @@ impl Form {
     }
 
     /// Hands out the next number. Answers it, the count after it and the recorded length after it.
+    #[inline]
     pub fn hand_out(self, save: &Save, pages: &[u32], entries: &[u32]) -> Reply {
         Reply::of(|out| self.hand_out_into(save, pages, entries, out))
     }
@@ -211,6 +214,7 @@ impl Form {
 
     /// Finishes the save. Answers the head, the bump, the recorded length, the pages and the entries
     /// of the new list and how many pages are to be written.
+    #[inline]
     pub fn finish(self, save: &Save, freed: &[u32], lent: &mut Lent) -> Reply {
         // SAFETY: the function reads only what it is lent, and writes only to the tables, the
         // buffer, the numbers and the eight places of `out`.

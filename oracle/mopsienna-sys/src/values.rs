@@ -92,9 +92,10 @@ pub fn decode_cell(cell: &[u8], hash: &mut Hash) -> Reply {
     Reply::of(|out| unsafe { mopsienna_decode_cell(cell.as_ptr(), cell.len(), hash, out) })
 }
 
-/// Values and page lookup.
+/// Values and page lookup, inlined too.
 impl Form {
     /// Writes one page of a value to the start of the page buffer.
+    #[inline]
     pub fn write_value_page(
         self,
         value: &[u8],
@@ -120,6 +121,7 @@ impl Form {
     }
 
     /// Reads a value by its cell. Answers its size and how many numbers were found.
+    #[inline]
     pub fn read_value(
         self,
         cell: &[u8],
@@ -148,6 +150,7 @@ impl Form {
     }
 
     /// Collects the numbers of a value's pages. Answers how many were found.
+    #[inline]
     pub fn delete_value(self, cell: &[u8], store: &[u8], numbers: &mut [u32]) -> Reply {
         // SAFETY: the function reads only the cell and the store, and writes only to the table and
         // to the eight places of `out`.
@@ -169,6 +172,7 @@ impl Form {
 
     /// Finds a page. Answers 0 for the pending pages or 1 for the store, and the byte there at which
     /// the page starts.
+    #[inline]
     pub fn lookup(self, numbers: &[u32], pending: &[u8], store: &[u8], page: u32) -> Reply {
         Reply::of(|out| self.lookup_into(numbers, pending, store, page, out))
     }
