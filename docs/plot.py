@@ -8,7 +8,7 @@ WIDTH, HEIGHT, GAP, EDGE = 300, 200, 70, 60
 
 
 def table():
-    """The rows by operation: size, ours, the Rust."""
+    """The rows of every operation with more than one size: size, ours, the Rust."""
     text = (FOLDER / "PERFORMANCE.md").read_text().split("## How cost grows")[1]
     operations = {}
     for line in text.splitlines():
@@ -16,7 +16,7 @@ def table():
         if len(cells) == 5 and cells[1].isdigit():
             name = line.strip("|").split("|")[0].strip()
             operations.setdefault(name, []).append(tuple(int(cell) for cell in cells[1:4]))
-    return operations
+    return {name: rows for name, rows in operations.items() if len(rows) > 1}
 
 
 def panel(name, rows, left, top):
@@ -42,6 +42,9 @@ def panel(name, rows, left, top):
     for column, colour in ((1, "#06c"), (2, "#c40")):
         line = " ".join(point(row[0], row[column]) for row in rows)
         parts.append(f'<polyline points="{line}" fill="none" stroke="{colour}" stroke-width="2"/>')
+        for row in rows:
+            x, y = point(row[0], row[column]).split(",")
+            parts.append(f'<circle cx="{x}" cy="{y}" r="3" fill="{colour}"/>')
     return parts
 
 
@@ -54,7 +57,8 @@ def main():
     parts = [
         f'<svg xmlns="http://www.w3.org/2000/svg" width="{width}" height="{height}" font-family="sans-serif" font-size="12">',
         f'<rect width="{width}" height="{height}" fill="white"/>',
-        f'<text x="{EDGE}" y="20" fill="#06c">ours</text><text x="{EDGE + 50}" y="20" fill="#c40">the Rust</text>',
+        f'<text x="{EDGE}" y="20" fill="#06c">ours</text><text x="{EDGE + 50}" y="20" fill="#c40">the Rust</text>'
+        f'<text x="{EDGE + 120}" y="20">instructions of one call, by size</text>',
     ]
     for place, (name, rows) in enumerate(operations.items()):
         left = EDGE + place % columns * (WIDTH + GAP)

@@ -1,9 +1,12 @@
 // Cells: size (8 bytes), hash (32, carried and not computed), numbers of pages.
 ghost use mathlib.Core.Path.{_≡_};
+ghost use Prim.Native.Nat.{_+_, _≤_};
+ghost use lib.ListN.{length, take, drop};
+ghost use lib.Seq.{sets};
 ghost use Rattle.overflow.specs.Stored.{Stored, writtenOutcome};
 ghost use Rattle.overflow.specs.Cells.{encodeCellInto, DecodeEffect, decodedOutcome, cellCounts, decodeCellInto};
 use crate::stored::Written;
-use page::copy::copy;
+use page::copy::copy_word;
 use page::little_endian::read_u64;
 use page::little_endian::write_numbers;
 use page::little_endian::write_u64;
@@ -33,7 +36,7 @@ pub fn encode_cell(size: u64, hash: &[u8; 32], numbers: &[u32], cell: &mut [u8])
         return Written::Refused(Refusal::Room);
     }
     write_u64(cell, 0, size);
-    copy(hash, 0, 32, cell, 8);
+    copy_hash(hash, 0, cell, 8);
     write_numbers(numbers, 0, count, cell, 40);
     Written::Bytes(length)
 }
@@ -45,7 +48,7 @@ pub fn decode_cell(cell: &[u8], hash: &mut [u8; 32]) -> Decoded
     let decoded = cell_counts(cell);
     match decoded {
         Decoded::Cell(counts) => {
-            copy(cell, 8, 32, hash, 0);
+            copy_hash(cell, 8, hash, 0);
             Decoded::Cell(counts)
         }
         Decoded::Refused(r) => Decoded::Refused(r),
@@ -71,4 +74,15 @@ pub(crate) fn cell_counts(cell: &[u8]) -> Decoded
         size: size as usize,
         numbers: (length - 40) / 4,
     })
+}
+
+// Copies a hash, word by word.
+fn copy_hash(a: &[u8], from: usize, b: &mut [u8], to: usize)
+    requires { ⌜ (from + 32 ≤ length (now a)) × (to + 32 ≤ length (now b)) ⌝ }
+    ensures { λ _. ⌜ now (b .exit) ≡ sets (now (b .entry)) to (take 32 (drop from (now (a .entry)))) ⌝ }
+{
+    copy_word(a, from, b, to);
+    copy_word(a, from + 8, b, to + 8);
+    copy_word(a, from + 16, b, to + 16);
+    copy_word(a, from + 24, b, to + 24);
 }

@@ -8,7 +8,7 @@ use native.Mathlib.Numerals.{add-one}
 use native.Mathlib.Omega.{arith}
 use borrow.Rule.Slice.PartMut.{putMid}
 use lib.ListN.{length, getD, take, drop, set, length-set, length-drop, take-append-drop, replicate, length-replicate, replicate-append-replicate, drop-of-length-le}
-use lib.Seq.{sets, sets-eq, take-suc, getD-drop, drop-drop, drop-append-le, set-set, set-comm, getD-set-same, getD-set-other, length-take-le, take-at}
+use lib.Seq.{sets, sets-eq, take-suc, getD-drop, drop-drop, drop-append-le, set-set, set-comm, getD-set-same, getD-set-other, length-take-le, take-at, take-add}
 
 -- in two parts
 pub sets-append : (l : List ℕ) (i : ℕ) (xs ys : List ℕ) → sets l i (xs ++ ys) ≡ sets (sets l i xs) (i + length xs) ys
@@ -34,6 +34,24 @@ copied-more l m a from to i h e =
     let inside : i < length (drop from a) = omega (arith, length-drop from a) in
     let more : take (i + 1) (drop from a) ≡ first ++ (getD a (from + i) 0 ∷ []) = rw (add-one, take-suc (drop from a) i 0 inside, getD-drop) in
     rw (more, sets-snoc l to first (getD a (from + i) 0) i (length-take-le i (drop from a) (omega arith)), ← e)
+
+-- a part more
+pub part-copied : (l m a : List ℕ) (from to i n : ℕ) → from + i ≤ length a → m ≡ sets l to (take i (drop from a)) → sets m (to + i) (take n (drop (from + i) a)) ≡ sets l to (take (i + n) (drop from a))
+part-copied l m a from to i n h e =
+    let first = take i (drop from a) in
+    let long : length first ≡ i = length-take-le i (drop from a) (omega (arith, length-drop from a)) in
+    rw (take-add i n (drop from a), drop-drop i from a, sets-append l to first (take n (drop (from + i) a)), long, ← e)
+
+-- eight values, one after another
+pub word-copied : (l a : List ℕ) (from to : ℕ) → from + 8 ≤ length a
+    → set (set (set (set (set (set (set (set l to (getD a from 0)) (to + 1) (getD a (from + 1) 0)) (to + 2) (getD a (from + 2) 0)) (to + 3) (getD a (from + 3) 0)) (to + 4) (getD a (from + 4) 0)) (to + 5) (getD a (from + 5) 0)) (to + 6) (getD a (from + 6) 0)) (to + 7) (getD a (from + 7) 0)
+    ≡ sets l to (take 8 (drop from a))
+word-copied l a from to h =
+    let start : set l to (getD a from 0) ≡ sets l to (take 1 (drop from a)) = rw (add-zero to, add-zero from) at (copied-more l l a from to 0 (omega arith) refl) in
+    more 7 (omega arith) (more 6 (omega arith) (more 5 (omega arith) (more 4 (omega arith) (more 3 (omega arith) (more 2 (omega arith) (more 1 (omega arith) start))))))
+  where
+    more : (i : ℕ) {m : List ℕ} → i < 8 → m ≡ sets l to (take i (drop from a)) → set m (to + i) (getD a (from + i) 0) ≡ sets l to (take (i + 1) (drop from a))
+    more i {m} less e = copied-more l m a from to i (omega arith) e
 
 -- all places
 pub sets-whole : (l vs : List ℕ) → length vs ≡ length l → sets l 0 vs ≡ vs

@@ -1,5 +1,6 @@
 //! Times libmopsienna beside the Rust, one operation after another.
 
+mod cells;
 mod lists;
 mod lookups;
 mod saves;
@@ -46,9 +47,10 @@ fn main() -> ExitCode {
 
 fn run(mode: Mode) -> io::Result<()> {
     let takes = |name: &str| mode.takes(name);
-    let operations: [&dyn Fn() -> io::Result<Vec<Row>>; 4] = [
+    let operations: [&dyn Fn() -> io::Result<Vec<Row>>; 5] = [
         &lists::rows,
         &saves::rows,
+        &|| Ok(cells::rows()),
         &|| values::rows(&takes),
         &lookups::rows,
     ];

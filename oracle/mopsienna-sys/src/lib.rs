@@ -149,8 +149,14 @@ pub fn grow(page: u32) -> Reply {
 
 /// Answers the total of pages, the numbers in the cell and the spare room.
 pub fn total(size: u64) -> Reply {
+    Reply::of(|out| total_into(size, out))
+}
+
+/// The same into places that are there already: 0 or the refusal's number.
+#[inline]
+pub fn total_into(size: u64, out: &mut Out) -> u32 {
     // SAFETY: the function writes only to the eight places of `out`.
-    Reply::of(|out| unsafe { mopsienna_total(size, out) })
+    unsafe { mopsienna_total(size, out) }
 }
 
 /// Lists and saves. All is inlined, so that where the form is known it costs nothing to choose.

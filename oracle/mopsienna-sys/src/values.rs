@@ -71,6 +71,7 @@ in_both! {
 }
 
 /// Writes a cell to the start of the cell buffer.
+#[inline]
 pub fn encode_cell(size: u64, hash: &Hash, numbers: &[u32], cell: &mut [u8]) -> Reply {
     // SAFETY: the function reads only the hash and the numbers, and writes only to the buffer.
     Reply::of(|_| unsafe {
@@ -87,9 +88,15 @@ pub fn encode_cell(size: u64, hash: &Hash, numbers: &[u32], cell: &mut [u8]) -> 
 
 /// Reads a cell's hash. Answers the value's size and how many numbers the cell has.
 pub fn decode_cell(cell: &[u8], hash: &mut Hash) -> Reply {
+    Reply::of(|out| decode_cell_into(cell, hash, out))
+}
+
+/// The same into places that are there already: 0 or the refusal's number.
+#[inline]
+pub fn decode_cell_into(cell: &[u8], hash: &mut Hash, out: &mut Out) -> u32 {
     // SAFETY: the function reads only the cell, and writes only to the hash and to the eight places
     // of `out`.
-    Reply::of(|out| unsafe { mopsienna_decode_cell(cell.as_ptr(), cell.len(), hash, out) })
+    unsafe { mopsienna_decode_cell(cell.as_ptr(), cell.len(), hash, out) }
 }
 
 /// Values and page lookup, inlined too.

@@ -14,14 +14,14 @@ cell-counts-requires c κs = search needs
 enum-known-decoded : tie.Need-enum-known-decoded
 enum-known-decoded c = search needs
 
-copy-requires : tie.Need-copy-requires
-copy-requires c κs = (omega (arith, decoding _ _ (ap decodedOutcome (sym (c .before .before .decoded .given .1)) ∙ c .before .before .before .before .cell-counts .ensures) .long), omega (arith, c .before .before .before .before .before .before .good))
+copy-hash-requires : tie.Need-copy-hash-requires
+copy-hash-requires c κs = (omega (arith, decoding _ _ (ap decodedOutcome (sym (c .before .before .decoded .given .1)) ∙ c .before .before .before .before .cell-counts .ensures) .long), omega (arith, c .before .before .before .before .before .before .good))
 
 enum-known-decoded-2 : tie.Need-enum-known-decoded-2
 enum-known-decoded-2 c = search needs
 
 returns : tie.Need-returns
-returns c = into-decoded _ _ _ (ap decodedOutcome (sym (c .before .before .before .decoded .given .1)) ∙ c .before .before .before .before .before .cell-counts .ensures) _ (c .copy .ensures)
+returns c = into-decoded _ _ _ (ap decodedOutcome (sym (c .before .before .before .decoded .given .1)) ∙ c .before .before .before .before .before .cell-counts .ensures) _ (c .copy-hash .ensures)
 
 returns-2 : tie.Need-returns-2
 returns-2 c = into-refused _ _ _ _ (ap decodedOutcome (sym (c .before .decoded2 .given .1)) ∙ c .before .before .before .cell-counts .ensures)
@@ -32,7 +32,7 @@ decode-cell-spec =
     (tie.spec
     cell-counts-requires
     enum-known-decoded
-    copy-requires
+    copy-hash-requires
     enum-known-decoded-2
     returns
     returns-2)

@@ -21,8 +21,8 @@ returns-2 c = cell-short _ _ _ _ (c .before .if1 .left) (c .if2 .taken)
 write-u64-requires : tie.Need-write-u64-requires
 write-u64-requires c κs = search needs
 
-copy-requires : tie.Need-copy-requires
-copy-requires c κs = search needs
+copy-hash-requires : tie.Need-copy-hash-requires
+copy-hash-requires c κs = search needs
 
 write-numbers-requires : tie.Need-write-numbers-requires
 write-numbers-requires c κs = search needs
@@ -31,7 +31,7 @@ same-length : tie.Need-same-length
 same-length c = search needs
 
 returns-3 : tie.Need-returns-3
-returns-3 c = cell-written _ _ _ _ (c .before .before .before .before .before .before .before .before .before .before .before .before .before .before .if1 .left) (omega (arith, c .before .before .before .before .before .before .before .before .before .before .before .before .before .before .before .before .before .good)) (c .before .before .before .before .before .before .before .before .before .before .before .before .before .if2 .left) _ _ _ (c .before .before .before .before .before .before .before .before .before .before .before .write-u64 .ensures) (c .before .before .before .before .before .before .copy .ensures) (c .before .before .write-numbers .ensures)
+returns-3 c = cell-written _ _ _ _ (c .before .before .before .before .before .before .before .before .before .before .before .before .before .before .if1 .left) (omega (arith, c .before .before .before .before .before .before .before .before .before .before .before .before .before .before .before .before .before .good)) (c .before .before .before .before .before .before .before .before .before .before .before .before .before .if2 .left) _ _ _ (c .before .before .before .before .before .before .before .before .before .before .before .write-u64 .ensures) (c .before .before .before .before .before .before .copy-hash .ensures) (c .before .before .write-numbers .ensures)
 
 pub encode-cell-spec : {M : Type 1} → statement M
 encode-cell-spec =
@@ -42,7 +42,7 @@ encode-cell-spec =
     add-length
     returns-2
     write-u64-requires
-    copy-requires
+    copy-hash-requires
     write-numbers-requires
     same-length
     returns-3)
