@@ -5,5 +5,5 @@
 pub mod lists;
 pub mod lookups;
 pub mod saves;
-mod totals;
+pub mod totals;
 pub mod values;

@@ -1,19 +1,14 @@
 // Makes calls that were recorded with their answers, and compares what they give now.
 //
-// Each line of standard input is one call: its kind, what goes in and what has to come out, as `calls` says of each.
+// Each line of standard input is one call: its kind, what goes in and what has to come out, as the crate `recorded` says of each.
 ghost use Rattle.io.specs.Counts.{Counts};
-use calls::replay;
 use libc::STDIN_FILENO;
 use libc::STDOUT_FILENO;
-use line::Reading;
-use line::with_byte;
-use line::with_number;
-
-mod calls;
-mod line;
-mod lists;
-mod numbers;
-mod values;
+use line::numbers::MOST;
+use line::reading::Reading;
+use line::reading::with_byte;
+use line::reading::with_number;
+use recorded::replay;
 
 // So many wrong lines are named.
 const MOST_NAMED: u64 = 10;
@@ -29,7 +24,7 @@ struct Progress {
 
 fn main() {
     let mut input = io::large_buffer();
-    let mut table = [0u64; 8192];
+    let mut table = [0u64; MOST];
     replay_all(&mut input, &mut table);
 }
 

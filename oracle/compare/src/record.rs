@@ -11,7 +11,7 @@ const FILLER: u64 = 9;
 /// Longer lines are left out.
 const MOST_CHARACTERS: usize = 400;
 
-/// The kinds of lines, as crates/replay numbers them.
+/// The kinds of lines, as crates/recorded numbers them.
 #[derive(Clone, Copy)]
 pub enum Kind {
     Grow = 1,

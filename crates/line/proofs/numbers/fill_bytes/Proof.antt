@@ -1,21 +1,18 @@
--- `take_bytes` is safe and ends: the bytes keep their length.
+-- `fill_bytes` is safe and ends: the bytes keep their length.
 -- Assumes nothing.
 use Prim.Native.Nat.{_-_}
 use mathlib.Core.Path.{_≡_, refl}
 use native.Mathlib.Omega.{arith}
 use lib.ListN.{length, length-set}
 use borrow.Author.Needs.{needs}
-use Rattle.replay.proofs.numbers.take_bytes.Statement.{statement}
-use Rattle.replay.proofs.numbers.take_bytes.Tie as tie
+use Rattle.line.proofs.numbers.fill_bytes.Statement.{statement}
+use Rattle.line.proofs.numbers.fill_bytes.Tie as tie
 
 abbrev Inv-loop : tie.InvT-loop
-Inv-loop line at bytes₀ start i₀ bytes i = length bytes ≡ length bytes₀
+Inv-loop line at bytes₀ i₀ bytes i = length bytes ≡ length bytes₀
 
 abbrev μ-loop : tie.MeasureT-loop
-μ-loop line at bytes₀ start i₀ bytes i = length bytes₀ - i
-
-after-number-requires : tie.Need-after-number-requires Inv-loop μ-loop
-after-number-requires c κs = search needs
+μ-loop line at bytes₀ i₀ bytes i = length bytes₀ - i
 
 loop-holds : tie.Need-loop-holds Inv-loop μ-loop
 loop-holds c = refl
@@ -38,22 +35,18 @@ loop-less c = omega arith
 loop-again : tie.Need-loop-again Inv-loop μ-loop
 loop-again c = simp length-set (c .before .before .before .loop .inv)
 
-after-bytes-requires : tie.Need-after-bytes-requires Inv-loop μ-loop
-after-bytes-requires c κs = search needs
-
 same-length : tie.Need-same-length Inv-loop μ-loop
-same-length c = c .before .before .before .loop .inv
+same-length c = c .before .loop .inv
 
 returns : tie.Need-returns Inv-loop μ-loop
 returns c = tt
 
-pub take-bytes-spec : {M : Type 1} → statement M
-take-bytes-spec =
+pub fill-bytes-spec : {M : Type 1} → statement M
+fill-bytes-spec =
     tie.close
     (tie.spec
     Inv-loop
     μ-loop
-    after-number-requires
     loop-holds
     plus-requires
     byte-requires
@@ -61,6 +54,5 @@ take-bytes-spec =
     add-i
     loop-less
     loop-again
-    after-bytes-requires
     same-length
     returns)

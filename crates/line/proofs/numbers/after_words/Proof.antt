@@ -1,17 +1,17 @@
--- `after_out` is safe and ends: the place in `out` goes up to 8.
+-- `after_words` is safe and ends: the place in the table goes up to its length.
 -- Assumes nothing.
 use Prim.Native.Nat.{_-_, _≤_}
 use native.Mathlib.Omega.{arith}
 use lib.ListN.{length}
 use borrow.Author.Needs.{needs}
-use Rattle.replay.proofs.numbers.after_out.Statement.{statement}
-use Rattle.replay.proofs.numbers.after_out.Tie as tie
+use Rattle.line.proofs.numbers.after_words.Statement.{statement}
+use Rattle.line.proofs.numbers.after_words.Tie as tie
 
 abbrev Inv-loop : tie.InvT-loop
-Inv-loop line at out i₀ i = i ≤ 8
+Inv-loop line at table i₀ i = i ≤ length table
 
 abbrev μ-loop : tie.MeasureT-loop
-μ-loop line at out i₀ i = 8 - i
+μ-loop line at table i₀ i = length table - i
 
 loop-holds : tie.Need-loop-holds Inv-loop μ-loop
 loop-holds c = omega arith
@@ -22,11 +22,14 @@ plus-requires c κs = search needs
 number-requires : tie.Need-number-requires Inv-loop μ-loop
 number-requires c κs = search needs
 
-mul-if1 : tie.Need-mul-if1 Inv-loop μ-loop
-mul-if1 c = omega arith
+mul-wide : tie.Need-mul-wide Inv-loop μ-loop
+mul-wide c = omega arith
 
-element-copy-out-if1 : tie.Need-element-copy-out-if1 Inv-loop μ-loop
-element-copy-out-if1 c = omega arith
+shared-slice-read-wide : tie.Need-shared-slice-read-wide Inv-loop μ-loop
+shared-slice-read-wide c = omega arith
+
+wide-requires : tie.Need-wide-requires Inv-loop μ-loop
+wide-requires c κs = search needs
 
 returns : tie.Need-returns Inv-loop μ-loop
 returns c = tt
@@ -46,8 +49,8 @@ plus-requires-2 c κs = search needs
 returns-2 : tie.Need-returns-2 Inv-loop μ-loop
 returns-2 c = tt
 
-pub after-out-spec : {M : Type 1} → statement M
-after-out-spec =
+pub after-words-spec : {M : Type 1} → statement M
+after-words-spec =
     tie.close
     (tie.spec
     Inv-loop
@@ -55,8 +58,9 @@ after-out-spec =
     loop-holds
     plus-requires
     number-requires
-    mul-if1
-    element-copy-out-if1
+    mul-wide
+    shared-slice-read-wide
+    wide-requires
     returns
     add-i
     loop-less

@@ -1,21 +1,18 @@
--- `take_words` is safe and ends: the table keeps its length.
+-- `fill_words` is safe and ends: the table keeps its length.
 -- Assumes nothing.
 use Prim.Native.Nat.{_-_}
 use mathlib.Core.Path.{_≡_, refl}
 use native.Mathlib.Omega.{arith}
 use lib.ListN.{length, length-set}
 use borrow.Author.Needs.{needs}
-use Rattle.replay.proofs.numbers.take_words.Statement.{statement}
-use Rattle.replay.proofs.numbers.take_words.Tie as tie
+use Rattle.line.proofs.numbers.fill_words.Statement.{statement}
+use Rattle.line.proofs.numbers.fill_words.Tie as tie
 
 abbrev Inv-loop : tie.InvT-loop
-Inv-loop line at table₀ start i₀ table i = length table ≡ length table₀
+Inv-loop line at table₀ i₀ table i = length table ≡ length table₀
 
 abbrev μ-loop : tie.MeasureT-loop
-μ-loop line at table₀ start i₀ table i = length table₀ - i
-
-after-number-requires : tie.Need-after-number-requires Inv-loop μ-loop
-after-number-requires c κs = search needs
+μ-loop line at table₀ i₀ table i = length table₀ - i
 
 loop-holds : tie.Need-loop-holds Inv-loop μ-loop
 loop-holds c = refl
@@ -41,22 +38,18 @@ loop-less c = omega arith
 loop-again : tie.Need-loop-again Inv-loop μ-loop
 loop-again c = simp length-set (c .before .before .before .loop .inv)
 
-after-words-requires : tie.Need-after-words-requires Inv-loop μ-loop
-after-words-requires c κs = search needs
-
 same-length : tie.Need-same-length Inv-loop μ-loop
-same-length c = c .before .before .before .loop .inv
+same-length c = c .before .loop .inv
 
 returns : tie.Need-returns Inv-loop μ-loop
 returns c = tt
 
-pub take-words-spec : {M : Type 1} → statement M
-take-words-spec =
+pub fill-words-spec : {M : Type 1} → statement M
+fill-words-spec =
     tie.close
     (tie.spec
     Inv-loop
     μ-loop
-    after-number-requires
     loop-holds
     plus-requires
     word-requires
@@ -65,6 +58,5 @@ take-words-spec =
     add-i
     loop-less
     loop-again
-    after-words-requires
     same-length
     returns)

@@ -4,8 +4,8 @@ use mathlib.Core.Path.{sym}
 use native.Mathlib.Omega.{arith}
 use lib.Seq.{length-take-le}
 use borrow.Author.Needs.{needs}
-use Rattle.replay.proofs.numbers.count.Statement.{statement}
-use Rattle.replay.proofs.numbers.count.Tie as tie
+use Rattle.line.proofs.numbers.count.Statement.{statement}
+use Rattle.line.proofs.numbers.count.Tie as tie
 
 number-requires : tie.Need-number-requires
 number-requires c κs = search needs

@@ -1,17 +1,17 @@
--- `after_words` is safe and ends: the place in the table goes up to its length.
+-- `after_bytes` is safe and ends: the place in the bytes goes up to their length.
 -- Assumes nothing.
 use Prim.Native.Nat.{_-_, _≤_}
 use native.Mathlib.Omega.{arith}
 use lib.ListN.{length}
 use borrow.Author.Needs.{needs}
-use Rattle.replay.proofs.numbers.after_words.Statement.{statement}
-use Rattle.replay.proofs.numbers.after_words.Tie as tie
+use Rattle.line.proofs.numbers.after_bytes.Statement.{statement}
+use Rattle.line.proofs.numbers.after_bytes.Tie as tie
 
 abbrev Inv-loop : tie.InvT-loop
-Inv-loop line at table i₀ i = i ≤ length table
+Inv-loop line at bytes i₀ i = i ≤ length bytes
 
 abbrev μ-loop : tie.MeasureT-loop
-μ-loop line at table i₀ i = length table - i
+μ-loop line at bytes i₀ i = length bytes - i
 
 loop-holds : tie.Need-loop-holds Inv-loop μ-loop
 loop-holds c = omega arith
@@ -22,14 +22,11 @@ plus-requires c κs = search needs
 number-requires : tie.Need-number-requires Inv-loop μ-loop
 number-requires c κs = search needs
 
-mul-wide : tie.Need-mul-wide Inv-loop μ-loop
-mul-wide c = omega arith
+shared-slice-read-wide-byte : tie.Need-shared-slice-read-wide-byte Inv-loop μ-loop
+shared-slice-read-wide-byte c = omega arith
 
-shared-slice-read-wide : tie.Need-shared-slice-read-wide Inv-loop μ-loop
-shared-slice-read-wide c = omega arith
-
-wide-requires : tie.Need-wide-requires Inv-loop μ-loop
-wide-requires c κs = search needs
+wide-byte-requires : tie.Need-wide-byte-requires Inv-loop μ-loop
+wide-byte-requires c κs = search needs
 
 returns : tie.Need-returns Inv-loop μ-loop
 returns c = tt
@@ -49,8 +46,8 @@ plus-requires-2 c κs = search needs
 returns-2 : tie.Need-returns-2 Inv-loop μ-loop
 returns-2 c = tt
 
-pub after-words-spec : {M : Type 1} → statement M
-after-words-spec =
+pub after-bytes-spec : {M : Type 1} → statement M
+after-bytes-spec =
     tie.close
     (tie.spec
     Inv-loop
@@ -58,9 +55,8 @@ after-words-spec =
     loop-holds
     plus-requires
     number-requires
-    mul-wide
-    shared-slice-read-wide
-    wide-requires
+    shared-slice-read-wide-byte
+    wide-byte-requires
     returns
     add-i
     loop-less

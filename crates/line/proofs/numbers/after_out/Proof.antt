@@ -1,17 +1,17 @@
--- `after_bytes` is safe and ends: the place in the bytes goes up to their length.
+-- `after_out` is safe and ends: the place in `out` goes up to 8.
 -- Assumes nothing.
 use Prim.Native.Nat.{_-_, _≤_}
 use native.Mathlib.Omega.{arith}
 use lib.ListN.{length}
 use borrow.Author.Needs.{needs}
-use Rattle.replay.proofs.numbers.after_bytes.Statement.{statement}
-use Rattle.replay.proofs.numbers.after_bytes.Tie as tie
+use Rattle.line.proofs.numbers.after_out.Statement.{statement}
+use Rattle.line.proofs.numbers.after_out.Tie as tie
 
 abbrev Inv-loop : tie.InvT-loop
-Inv-loop line at bytes i₀ i = i ≤ length bytes
+Inv-loop line at out i₀ i = i ≤ 8
 
 abbrev μ-loop : tie.MeasureT-loop
-μ-loop line at bytes i₀ i = length bytes - i
+μ-loop line at out i₀ i = 8 - i
 
 loop-holds : tie.Need-loop-holds Inv-loop μ-loop
 loop-holds c = omega arith
@@ -22,11 +22,11 @@ plus-requires c κs = search needs
 number-requires : tie.Need-number-requires Inv-loop μ-loop
 number-requires c κs = search needs
 
-shared-slice-read-wide-byte : tie.Need-shared-slice-read-wide-byte Inv-loop μ-loop
-shared-slice-read-wide-byte c = omega arith
+mul-if1 : tie.Need-mul-if1 Inv-loop μ-loop
+mul-if1 c = omega arith
 
-wide-byte-requires : tie.Need-wide-byte-requires Inv-loop μ-loop
-wide-byte-requires c κs = search needs
+element-copy-out-if1 : tie.Need-element-copy-out-if1 Inv-loop μ-loop
+element-copy-out-if1 c = omega arith
 
 returns : tie.Need-returns Inv-loop μ-loop
 returns c = tt
@@ -46,8 +46,8 @@ plus-requires-2 c κs = search needs
 returns-2 : tie.Need-returns-2 Inv-loop μ-loop
 returns-2 c = tt
 
-pub after-bytes-spec : {M : Type 1} → statement M
-after-bytes-spec =
+pub after-out-spec : {M : Type 1} → statement M
+after-out-spec =
     tie.close
     (tie.spec
     Inv-loop
@@ -55,8 +55,8 @@ after-bytes-spec =
     loop-holds
     plus-requires
     number-requires
-    shared-slice-read-wide-byte
-    wide-byte-requires
+    mul-if1
+    element-copy-out-if1
     returns
     add-i
     loop-less

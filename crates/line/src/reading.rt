@@ -1,4 +1,4 @@
-// A line of recorded numbers, read byte by byte into a table.
+// Reading a line byte by byte into a table.
 //
 // Numbers are in decimal, with one space between two. A line that starts with `#` is skipped.
 

@@ -4,13 +4,16 @@
 // back: so the end of a line is reached only if all of it is right.
 ghost use Rattle.io.specs.Counts.{Counts};
 
+// A line has at most so many numbers, and so none of its arrays has more elements.
+pub const MOST: usize = 8192;
+
 // The place of what is wrong.
-pub const NOWHERE: usize = 18446744073709551615;
+const NOWHERE: usize = 18446744073709551615;
 
 // What stands before a call in `out`, in tables and in buffers, where nothing is taken from the line.
 pub const FILLER: u64 = 9;
 
-pub const WORD_FILLER: u32 = 9;
+const WORD_FILLER: u32 = 9;
 
 pub const BYTE_FILLER: u8 = 9;
 
@@ -83,13 +86,23 @@ pub fn after_number(line: &[u64], at: usize, n: u64) -> usize {
     plus(at, 1)
 }
 
+// The place behind these two numbers.
+pub fn after_numbers(line: &[u64], at: usize, n: u64, m: u64) -> usize {
+    after_number(line, after_number(line, at, n), m)
+}
+
 // The place behind a number of 32 bits.
 pub fn after_word(line: &[u64], at: usize) -> usize {
     after_number(line, at, word(line, at) as u64)
 }
 
+// The place behind this status and these eight numbers.
+pub fn after_reply(line: &[u64], at: usize, status: u32, out: &[u64; 8]) -> usize {
+    after_out(line, after_number(line, at, status as u64), out)
+}
+
 // The place behind these eight numbers.
-pub fn after_out(line: &[u64], at: usize, out: &[u64; 8]) -> usize {
+fn after_out(line: &[u64], at: usize, out: &[u64; 8]) -> usize {
     let mut i = 0;
     while i < 8 {
         if number(line, plus(at, i)) != out[i] {
@@ -129,26 +142,65 @@ pub fn after_hash(line: &[u64], at: usize, hash: &[u8; 32]) -> usize {
     after_bytes(line, at, hash)
 }
 
-// Takes an array of as many elements as the table has. Gives the place behind it.
-pub fn take_words(line: &[u64], at: usize, table: &mut [u32]) -> usize {
-    let start = after_number(line, at, table.len() as u64);
-    let mut i = 0;
-    while i < table.len() {
-        table[i] = word(line, plus(start, i));
-        i += 1;
-    }
-    after_words(line, start, table)
+// The place behind this array, as its length and its elements.
+pub fn after_word_array(line: &[u64], at: usize, table: &[u32]) -> usize {
+    after_words(line, after_number(line, at, table.len() as u64), table)
 }
 
-// Takes an array of as many bytes. Gives the place behind it.
-pub fn take_bytes(line: &[u64], at: usize, bytes: &mut [u8]) -> usize {
-    let start = after_number(line, at, bytes.len() as u64);
+// The same of bytes.
+pub fn after_byte_array(line: &[u64], at: usize, bytes: &[u8]) -> usize {
+    after_bytes(line, after_number(line, at, bytes.len() as u64), bytes)
+}
+
+// A table before a call, as long as any.
+pub fn blank_words() -> [u32; MOST] {
+    [WORD_FILLER; MOST]
+}
+
+// The same of bytes.
+pub fn blank_bytes() -> [u8; MOST] {
+    [BYTE_FILLER; MOST]
+}
+
+// A table that starts with the array at a place.
+pub fn taken_words(line: &[u64], at: usize) -> [u32; MOST] {
+    let mut table = blank_words();
+    let n = count(line, at, &table);
+    fill_words(line, plus(at, 1), &mut table[..n]);
+    table
+}
+
+// The same of bytes.
+pub fn taken_bytes(line: &[u64], at: usize) -> [u8; MOST] {
+    let mut bytes = blank_bytes();
+    let n = count_bytes(line, at, &bytes);
+    fill_bytes(line, plus(at, 1), &mut bytes[..n]);
+    bytes
+}
+
+// The hash of the array at a place.
+pub fn taken_hash(line: &[u64], at: usize) -> [u8; 32] {
+    let mut hash = [BYTE_FILLER; 32];
+    fill_bytes(line, plus(at, 1), &mut hash);
+    hash
+}
+
+// Fills the table with the numbers from a place on, 0 for one that has more than 32 bits.
+fn fill_words(line: &[u64], at: usize, table: &mut [u32]) {
     let mut i = 0;
-    while i < bytes.len() {
-        bytes[i] = byte(line, plus(start, i));
+    while i < table.len() {
+        table[i] = word(line, plus(at, i));
         i += 1;
     }
-    after_bytes(line, start, bytes)
+}
+
+// The same of bytes.
+fn fill_bytes(line: &[u64], at: usize, bytes: &mut [u8]) {
+    let mut i = 0;
+    while i < bytes.len() {
+        bytes[i] = byte(line, plus(at, i));
+        i += 1;
+    }
 }
 
 fn wide(n: u32) -> u64 {
