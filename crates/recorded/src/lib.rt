@@ -6,6 +6,7 @@ use line::numbers::number;
 use lists::replay_finish;
 use lists::replay_hand_out;
 use lists::replay_read_list;
+use lookups::replay_lookup;
 use totals::replay_grow;
 use totals::replay_total;
 use values::replay_decode_cell;
@@ -15,6 +16,7 @@ use values::replay_read_value;
 use values::replay_write_page;
 
 mod lists;
+mod lookups;
 mod totals;
 mod values;
 
@@ -31,6 +33,7 @@ pub fn replay(line: &[u64]) -> bool {
         8 => replay_decode_cell(line),
         9 => replay_read_value(line),
         10 => replay_delete_value(line),
+        11 => replay_lookup(line),
         _ => false,
     }
 }

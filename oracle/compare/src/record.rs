@@ -24,6 +24,7 @@ pub enum Kind {
     DecodeCell = 8,
     ReadValue = 9,
     DeleteValue = 10,
+    Lookup = 11,
 }
 
 /// One call.
@@ -153,7 +154,7 @@ impl Recorder {
     pub fn write(&self, path: &str, seed: u64, count: u64) -> io::Result<String> {
         let mut text = format!(
             "# Made by oracle/compare --record, seed {seed}, count {count}: status 0 is what the Rust gave, any other a refusal of document 01's \
-             that the model in oracle/compare gives.\n"
+             that the model in oracle/compare gives. Page lookup, kind 11, is the model's alone.\n"
         );
         let mut counts: BTreeMap<(u32, u32), usize> = BTreeMap::new();
         for ((kind, number, _), class) in self.classes.borrow().iter() {

@@ -2,7 +2,10 @@
 //! the bytes that the answer names.
 
 use super::{lent::numbers_text, model, Comparison, LOOKUP};
-use crate::panics::unless_panic;
+use crate::{
+    panics::unless_panic,
+    record::{Kind, Line},
+};
 use common::{Random, Store};
 use mopsienna_sys::{Form, Reply};
 use nomt_plain::Values;
@@ -106,6 +109,21 @@ impl Comparison<'_> {
             self.query::<R>(&expected, query.as_deref(), store, text);
         }
         let bytes = vec![0x5A; pending];
+        let place = match (expected.number, expected.out[0]) {
+            (0, 0) => "pending",
+            (0, _) => "store",
+            _ => "nowhere",
+        };
+        let class = format!("{} {place}", R::PAGE_SIZE);
+        self.recorder.keep(8, class, pending + length, || {
+            Line::new(Kind::Lookup)
+                .number(R::PAGE_SIZE as u64)
+                .number(page)
+                .array(numbers)
+                .array(&bytes)
+                .array(store.bytes())
+                .reply(&expected)
+        });
         let reply = self
             .library
             .lookup(form, numbers, &bytes, store.bytes(), page);
