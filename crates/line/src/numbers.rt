@@ -5,7 +5,7 @@
 ghost use Rattle.io.specs.Counts.{Counts};
 
 // A line has at most so many numbers, and so none of its arrays has more elements.
-pub const MOST: usize = 8192;
+pub const MOST: usize = 32768;
 
 // The place of what is wrong.
 const NOWHERE: usize = 18446744073709551615;

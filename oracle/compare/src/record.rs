@@ -8,8 +8,11 @@ use std::{cell::RefCell, collections::BTreeMap, fs, io};
 /// What stands in the places that a call is lent and does not write, in all tables and in `out`.
 const FILLER: u64 = 9;
 
-/// Longer lines are left out.
+/// Lines with more characters are long ones.
 const MOST_CHARACTERS: usize = 400;
+
+/// Lines with more characters than this are left out: crates/line holds half as many numbers.
+const MOST_LONG: usize = 65_536;
 
 /// The kinds of lines, as crates/recorded numbers them.
 #[derive(Clone, Copy)]
@@ -30,21 +33,23 @@ pub enum Kind {
 /// One call.
 pub struct Line {
     kind: Kind,
-    text: String,
+    numbers: Vec<u64>,
     number: u32,
+    long: Option<String>,
 }
 
 impl Line {
     pub fn new(kind: Kind) -> Line {
         Line {
             kind,
-            text: (kind as u32).to_string(),
+            numbers: vec![kind as u64],
             number: 0,
+            long: None,
         }
     }
 
     pub fn number(mut self, number: impl Into<u64>) -> Line {
-        self.text += &format!(" {}", number.into());
+        self.numbers.push(number.into());
         self
     }
 
@@ -94,6 +99,17 @@ impl Line {
             line.number(if *value == untouched { FILLER } else { *value })
         })
     }
+
+    /// What sets it apart from other long lines, if it may be one.
+    pub fn long(mut self, class: Option<String>) -> Line {
+        self.long = class;
+        self
+    }
+
+    fn text(&self) -> String {
+        let numbers: Vec<String> = self.numbers.iter().map(u64::to_string).collect();
+        numbers.join(" ")
+    }
 }
 
 /// Lines of one class: how many there were, and those that are kept.
@@ -103,7 +119,26 @@ struct Class {
     lines: Vec<String>,
 }
 
-/// Keeps lines by class: the first of a class, which is about the smallest, and random ones.
+impl Class {
+    /// Keeps the line, or not: at most so many.
+    fn keep(&mut self, most: usize, line: String) {
+        self.seen += 1;
+        if self.lines.contains(&line) {
+            return;
+        }
+        if self.lines.len() < most {
+            self.lines.push(line);
+            return;
+        }
+        let place = Random::new(self.seen).below(self.seen) as usize;
+        if (1..most).contains(&place) {
+            self.lines[place] = line;
+        }
+    }
+}
+
+/// Keeps lines by class: the first of a class, which is about the smallest, and random ones. Of long
+/// lines only the first of a class.
 #[derive(Default)]
 pub struct Recorder {
     on: bool,
@@ -125,28 +160,26 @@ impl Recorder {
 
     /// Keeps the line, or not: of a class at most so many. `lent` is how many places are lent.
     pub fn keep(&self, most: usize, class: String, lent: usize, line: impl FnOnce() -> Line) {
-        if !self.on || lent > MOST_CHARACTERS / 2 {
+        if !self.on || lent > MOST_LONG / 2 {
             return;
         }
         let line = line();
-        if line.text.len() > MOST_CHARACTERS {
-            return;
-        }
+        let key = |class| (line.kind as u32, line.number, class);
         let mut classes = self.classes.borrow_mut();
-        let class = classes
-            .entry((line.kind as u32, line.number, class))
-            .or_default();
-        class.seen += 1;
-        if class.lines.contains(&line.text) {
+        let long = line.long.as_ref().map(|class| key(format!("long {class}")));
+        let wanted = long.filter(|key| !classes.contains_key(key));
+        if wanted.is_none() && line.numbers.len() > MOST_CHARACTERS / 2 {
             return;
         }
-        if class.lines.len() < most {
-            class.lines.push(line.text);
-            return;
-        }
-        let place = Random::new(class.seen).below(class.seen) as usize;
-        if (1..most).contains(&place) {
-            class.lines[place] = line.text;
+        let text = line.text();
+        match wanted {
+            _ if text.len() <= MOST_CHARACTERS => {
+                classes.entry(key(class)).or_default().keep(most, text);
+            }
+            Some(key) if text.len() <= MOST_LONG => {
+                classes.entry(key).or_default().keep(1, text);
+            }
+            _ => {}
         }
     }
 

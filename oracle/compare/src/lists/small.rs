@@ -1,4 +1,4 @@
-//! Lists at small page sizes, to be recorded: what the model accepts is read by the Rust.
+//! Lists in small stores, to be recorded: what the model accepts is read by the Rust.
 
 use super::model;
 use crate::{
@@ -10,20 +10,22 @@ use mopsienna_sys::Reply;
 use nomt_plain::Rust;
 use std::io;
 
-/// How many lists are looked at for each page size.
+/// How many lists are looked at for each small page size, and at 4,096 bytes.
 const LISTS: u64 = 4000;
+const LARGE_LISTS: u64 = 100;
 
 pub fn record_all(plan: &Plan) -> io::Result<()> {
-    record::<nomt_16::Plain>(plan)?;
-    record::<nomt_20::Plain>(plan)?;
-    record::<nomt_24::Plain>(plan)?;
-    record::<nomt_28::Plain>(plan)?;
-    record::<nomt_32::Plain>(plan)
+    record::<nomt_16::Plain>(plan, LISTS)?;
+    record::<nomt_20::Plain>(plan, LISTS)?;
+    record::<nomt_24::Plain>(plan, LISTS)?;
+    record::<nomt_28::Plain>(plan, LISTS)?;
+    record::<nomt_32::Plain>(plan, LISTS)?;
+    record::<nomt_4096::Plain>(plan, LARGE_LISTS)
 }
 
-fn record<R: Rust>(plan: &Plan) -> io::Result<()> {
+fn record<R: Rust>(plan: &Plan, lists: u64) -> io::Result<()> {
     let mut random = Random::new(plan.seed);
-    for list in 0..LISTS {
+    for list in 0..lists {
         let pages = random.below(2 + u64::from((list + 1).ilog2() / 2)) as usize;
         let others = 1 + random.below(3) as usize;
         let partial = random.pick(&[0, 0, 1, R::PAGE_SIZE - 1]);
@@ -56,7 +58,7 @@ fn fill<R: Rust>(store: &mut [u8], pages: usize, random: &mut Random) -> u32 {
         };
         let bytes = &mut store[page * R::PAGE_SIZE..][..R::PAGE_SIZE];
         bytes[0] = page as u8 - 1;
-        bytes[4] = count as u8;
+        bytes[4..6].copy_from_slice(&(count as u16).to_le_bytes());
         for entry in 0..count {
             let number = 1 + random.below((page_count - 1).max(1)) as u32;
             bytes[6 + 4 * entry..][..4].copy_from_slice(&number.to_le_bytes());
@@ -89,6 +91,8 @@ fn one<R: Rust>(plan: &Plan, store: &Store, head: u32, random: &mut Random) -> i
     };
     let bytes = store.bytes();
     let class = format!("{} harmed", R::PAGE_SIZE);
+    let full = reply.number == 0 && page_count > 1;
+    let fragmented = full && entry_count == R::CAPACITY * (page_count - 1);
     plan.recorder.keep(most, class, bytes.len(), || {
         Line::new(Kind::ReadList)
             .number(R::PAGE_SIZE as u64)
@@ -99,6 +103,7 @@ fn one<R: Rust>(plan: &Plan, store: &Store, head: u32, random: &mut Random) -> i
             .reply(&reply)
             .places(&pages, kept.0)
             .places(&entries, kept.1)
+            .long(full.then(|| format!("{} {fragmented}", R::PAGE_SIZE)))
     });
     Ok(())
 }

@@ -84,6 +84,7 @@ impl Comparison<'_> {
         };
         let past = save.count >= save.entries;
         let most = if expected.number == 0 { 40 } else { 3 };
+        let full = expected.number == 0 && entries.len() >= R::CAPACITY;
         self.recorder.keep(
             most,
             format!("{} {past}", R::PAGE_SIZE),
@@ -96,6 +97,7 @@ impl Comparison<'_> {
                     .length(entries)
                     .places(entries, save.entries as usize)
                     .reply(&expected)
+                    .long(full.then(|| format!("{} {past}", R::PAGE_SIZE)))
             },
         );
         let reply = self.library.hand_out(form, save, pages, entries);
@@ -275,6 +277,8 @@ impl Comparison<'_> {
             );
         }
         let lent = before.entries.len() + freed.len() + before.buffer.len();
+        let sample = self.group == "document 01";
+        let long = sample.then(|| format!("{class} {}", old.1 >= R::CAPACITY));
         self.recorder
             .keep(if answered { 4 } else { 3 }, class, lent, || {
                 let kept = |old: usize, new: usize| if answered { old.max(new) } else { old };
@@ -290,6 +294,7 @@ impl Comparison<'_> {
                     .places(&expected_lent.entries, kept(old.1, new.1))
                     .places(&expected_lent.buffer, written * R::PAGE_SIZE)
                     .places(&expected_lent.numbers, written)
+                    .long(long)
             });
     }
 

@@ -82,6 +82,10 @@ impl Comparison<'_> {
                     .length(&expected)
                     .status(&expected_reply)
                     .places(&expected, if written { R::PAGE_SIZE } else { 0 })
+                    .long(written.then(|| {
+                        let first = index == 0 && !past_cell;
+                        format!("{} {past_cell} {} {first}", R::PAGE_SIZE, numbers.len() > 1)
+                    }))
             },
         );
         let reply = self

@@ -123,6 +123,7 @@ impl Comparison<'_> {
                 .array(&bytes)
                 .array(store.bytes())
                 .reply(&expected)
+                .long((place != "nowhere").then(|| format!("{} {place}", R::PAGE_SIZE)))
         });
         let reply = self
             .library

@@ -150,6 +150,7 @@ impl Comparison<'_> {
                     .reply(&expected)
                     .places(&expected_table, found(model, &expected))
                     .places(&expected_value, read_size)
+                    .long(self.long_class(case, model, &expected))
             },
         );
         let reply = self
@@ -192,6 +193,7 @@ impl Comparison<'_> {
                     .length(&expected_table)
                     .reply(&expected)
                     .places(&expected_table, found(model, &expected))
+                    .long(self.long_class(case, model, &expected))
             },
         );
         let reply = self
@@ -204,6 +206,20 @@ impl Comparison<'_> {
                 difference("numbers", &expected_table, &table),
             )
         });
+    }
+
+    /// What sets a long line apart, for values as they were written: the page size, and whether the
+    /// value has one page, more, or more than have their numbers in the cell.
+    fn long_class(
+        &self,
+        case: &Case,
+        model: &Result<Walked, Reply>,
+        expected: &Reply,
+    ) -> Option<String> {
+        let total = model.as_ref().ok()?.total;
+        let past_cell = total > model::CELL_NUMBERS;
+        (expected.number == 0 && self.group.ends_with("written"))
+            .then(|| format!("{} {past_cell} {}", case.page_size, total > 1))
     }
 }
 
