@@ -75,7 +75,7 @@ impl<R: Values> History<R> {
         Ok(most)
     }
 
-    /// Makes a save, takes it over or gives it up, and reads all back.
+    /// Makes a save, ends it and reads all back.
     fn save(&mut self, comparison: &mut Comparison, random: &mut Random) -> io::Result<()> {
         let mut values = self.values.clone();
         let mut open = Open::start(self)?;
@@ -95,6 +95,18 @@ impl<R: Values> History<R> {
             }
         }
         comparison.count(Event::Saved);
+        self.end(comparison, open, values, random)?;
+        self.read_values(comparison)
+    }
+
+    /// Takes the save over with its values, or gives it up, before its finish or after it.
+    fn end(
+        &mut self,
+        comparison: &mut Comparison,
+        open: Open<R>,
+        values: Vec<Rc<Value>>,
+        random: &mut Random,
+    ) -> io::Result<()> {
         match random.below(16) {
             0 => {
                 comparison.count(Event::GivenUp);
@@ -120,7 +132,7 @@ impl<R: Values> History<R> {
                 }
             }
         }
-        self.read_values(comparison)
+        Ok(())
     }
 
     /// Gives the store as many pages as the recorded length says.

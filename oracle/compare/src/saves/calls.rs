@@ -124,72 +124,17 @@ impl Comparison<'_> {
         after: &After,
         random: &mut Random,
     ) {
-        let (pages, entries) = model::size(list);
-        let (new_pages, new_entries) = model::size(&after.state.list);
-        let written = after.written.len();
-        let exact = Room {
-            pages: pages.max(new_pages),
-            entries: entries.max(new_entries),
-            bytes: written * R::PAGE_SIZE,
-            numbers: written,
-        };
-        let ample = Room {
-            pages: exact.pages + 2,
-            entries: exact.entries + 5,
-            bytes: exact.bytes + R::PAGE_SIZE + 3,
-            numbers: exact.numbers + 2,
-        };
-        let shorter = |length: usize| length.saturating_sub(1);
-        let rooms = [
-            exact,
-            ample,
-            Room {
-                pages: shorter(exact.pages),
-                ..ample
-            },
-            Room {
-                entries: shorter(exact.entries),
-                ..ample
-            },
-            Room {
-                bytes: shorter(exact.bytes),
-                ..ample
-            },
-            Room {
-                numbers: shorter(exact.numbers),
-                ..ample
-            },
-            Room {
-                pages: shorter(exact.pages),
-                bytes: 0,
-                numbers: 0,
-                ..exact
-            },
-        ];
+        let rooms = Room::around::<R>(list, after);
         for room in rooms {
             self.finishing::<R>(form, save, list, freed, room, after);
         }
-
-        // The Rust takes any number as freed, and what it makes of the save depends only on how
-        // many there are, but for their places in the list.
         if freed.is_empty() {
             return;
         }
-        let limit = model::freed_limit(save).min(u32::MAX.into()) as u32;
         let mut bad = freed.to_vec();
         for _ in 0..1 + random.below(2) {
-            let place = random.below(bad.len() as u64) as usize;
-            bad[place] = match random.below(4) {
-                0 => 0,
-                1 => limit,
-                2 => limit.saturating_add(1 + random.below(1000) as u32),
-                _ => u32::MAX,
-            };
-            let room = if random.below(2) == 0 {
-                ample
-            } else {
-                rooms[6]
-            };
+            put_bad(&mut bad, model::freed_limit(save), random);
+            let room = random.pick(&[rooms[1], rooms[6]]);
             self.finishing::<R>(form, save, list, &bad, room, after);
         }
     }
@@ -359,4 +304,17 @@ impl Comparison<'_> {
         });
         Ok(())
     }
+}
+
+/// Makes one of the freed numbers none that may be freed. The Rust takes any number, and what it makes
+/// of the save depends only on how many there are, but for their places in the list.
+fn put_bad(freed: &mut [u32], limit: u64, random: &mut Random) {
+    let limit = limit.min(u32::MAX.into()) as u32;
+    let place = random.below(freed.len() as u64) as usize;
+    freed[place] = match random.below(4) {
+        0 => 0,
+        1 => limit,
+        2 => limit.saturating_add(1 + random.below(1000) as u32),
+        _ => u32::MAX,
+    };
 }

@@ -14,8 +14,16 @@ use std::io;
 const LAST_LENGTH: u32 = 4_294_959_104;
 
 pub fn each<R: Rust>(comparison: &mut Comparison, form: Form) -> io::Result<()> {
+    handed_out::<R>(comparison, form)?;
+    list_page_past_the_limit::<R>(comparison, form)?;
+    bad_freed::<R>(comparison, form)?;
+    left_bytes::<R>(comparison)
+}
+
+/// Bump 0, and the greatest bump: its number, and the one at which the store is cut.
+fn handed_out<R: Rust>(comparison: &mut Comparison, form: Form) -> io::Result<()> {
     let last = LAST_BUMP as u32;
-    let rows = [
+    for (bump, length, count, expected, number, does) in [
         (0, 0, 0, (0, 8192), model::STATE, "hands out 0"),
         (
             last,
@@ -33,8 +41,7 @@ pub fn each<R: Rust>(comparison: &mut Comparison, form: Form) -> io::Result<()> 
             model::LIMIT,
             "hands it out and cuts the store",
         ),
-    ];
-    for (bump, length, count, expected, number, does) in rows {
+    ] {
         let given = hand_out::<R>(comparison, form, &empty(bump, length), count)?;
         note(
             comparison,
@@ -45,27 +52,32 @@ pub fn each<R: Rust>(comparison: &mut Comparison, form: Form) -> io::Result<()> 
             || format!("bump {bump}, length {length}, {count} handed out: {given:?}"),
         );
     }
+    Ok(())
+}
 
+/// The greatest bump becomes a list page, with a store that is long enough and with one that is not.
+fn list_page_past_the_limit<R: Rust>(comparison: &mut Comparison, form: Form) -> io::Result<()> {
+    let last = LAST_BUMP as u32;
     for (length, length_after, does) in [
         (LAST_LENGTH, LAST_LENGTH, "takes the bump for a list page"),
         (last, 0, "takes the bump for a list page and cuts the store"),
     ] {
         let state = finish::<R>(comparison, form, &empty(last, length), 5)?.state();
-        let expected = State {
-            bump: last + 1,
-            length: length_after,
-            list: vec![(last, vec![5])],
-        };
-        note(
-            comparison,
-            FINISH,
-            state == expected,
-            model::LIMIT,
-            does,
-            || format!("bump {last}, length {length}, 5 freed: {state:?}"),
-        );
+        let as_said = state
+            == State {
+                bump: last + 1,
+                length: length_after,
+                list: vec![(last, vec![5])],
+            };
+        note(comparison, FINISH, as_said, model::LIMIT, does, || {
+            format!("bump {last}, length {length}, 5 freed: {state:?}")
+        });
     }
+    Ok(())
+}
 
+/// Numbers that are none, freed.
+fn bad_freed<R: Rust>(comparison: &mut Comparison, form: Form) -> io::Result<()> {
     for freed in [0, 30] {
         let rust = finish::<R>(comparison, form, &empty(30, 8192), freed)?;
         let list = rust.state().list;
@@ -76,7 +88,7 @@ pub fn each<R: Rust>(comparison: &mut Comparison, form: Form) -> io::Result<()> 
             format!("bump 30, {freed} freed: {list:?}, then {next}")
         });
     }
-    left_bytes::<R>(comparison)
+    Ok(())
 }
 
 /// A store with an empty list.

@@ -1,7 +1,8 @@
 //! What is lent to a call, and texts that tell of it.
 
+use super::model::{self, After};
 use mopsienna_sys::Lent;
-use nomt_plain::List;
+use nomt_plain::{List, Rust};
 use std::fmt::Write;
 
 /// What is lent to a finish: how many places of each.
@@ -11,6 +12,40 @@ pub struct Room {
     pub entries: usize,
     pub bytes: usize,
     pub numbers: usize,
+}
+
+impl Room {
+    /// What a finish needs, and more; then one place less of each; and at last one page less in the
+    /// table, with no buffer.
+    pub fn around<R: Rust>(list: &List, after: &After) -> [Room; 7] {
+        let (pages, entries) = model::size(list);
+        let (new_pages, new_entries) = model::size(&after.state.list);
+        let written = after.written.len();
+        let exact = Room {
+            pages: pages.max(new_pages),
+            entries: entries.max(new_entries),
+            bytes: written * R::PAGE_SIZE,
+            numbers: written,
+        };
+        let ample = Room {
+            pages: exact.pages + 2,
+            entries: exact.entries + 5,
+            bytes: exact.bytes + R::PAGE_SIZE + 3,
+            numbers: exact.numbers + 2,
+        };
+        let [mut pages, mut entries, mut bytes, mut numbers] = [ample; 4];
+        pages.pages = exact.pages.saturating_sub(1);
+        entries.entries = exact.entries.saturating_sub(1);
+        bytes.bytes = exact.bytes.saturating_sub(1);
+        numbers.numbers = exact.numbers.saturating_sub(1);
+        let least = Room {
+            pages: pages.pages,
+            bytes: 0,
+            numbers: 0,
+            ..exact
+        };
+        [exact, ample, pages, entries, bytes, numbers, least]
+    }
 }
 
 /// So much room, with the list in the tables as far as they go. Every other place holds a number of

@@ -7,7 +7,7 @@ use super::{
 };
 use crate::record::{Kind, Line};
 use common::Random;
-use mopsienna_sys::Save;
+use mopsienna_sys::{Lent, Reply, Save};
 use nomt_plain::{List, Rust, State};
 use std::io;
 
@@ -62,32 +62,15 @@ fn one<R: Rust>(comparison: &mut Comparison, form: Form, random: &mut Random) ->
     let freed = any_freed(R::CAPACITY, &save, random);
     let refusal = model::finish_at_once(R::CAPACITY, &save, &tables.pages, &tables.entries);
     if let Some(refusal) = refusal {
-        let places = tables.entries.len() + freed.len();
-        comparison
-            .recorder
-            .keep(4, R::PAGE_SIZE.to_string(), places, || {
-                let (pages, entries) = model::size(&state.list);
-                Line::new(Kind::Finish)
-                    .save(R::PAGE_SIZE, &save)
-                    .tables(&tables, (pages, entries))
-                    .array(&freed)
-                    .length(&tables.buffer)
-                    .length(&tables.numbers)
-                    .reply(&refusal)
-                    .places(&tables.pages, pages)
-                    .places(&tables.entries, entries)
-                    .places(&tables.buffer, 0)
-                    .places(&tables.numbers, 0)
-            });
-        let mut got = tables.clone();
-        let reply = comparison.library.finish(form, &save, &freed, &mut got);
-        comparison.reports[FINISH].compare(&refusal, &reply, got == tables, || {
-            let size = R::PAGE_SIZE;
-            format!(
-                "page size {size}, {save:?}, {room:?}, {} freed",
-                freed.len()
-            )
-        });
+        refused::<R>(
+            comparison,
+            form,
+            &save,
+            &state.list,
+            &tables,
+            &freed,
+            &refusal,
+        );
         return Ok(());
     }
     let state = standing::<R>(&state, &save);
@@ -96,6 +79,45 @@ fn one<R: Rust>(comparison: &mut Comparison, form: Form, random: &mut Random) ->
     let after = after(&rust, finished);
     comparison.finishes::<R>(form, &save, &state.list, &freed, &after, random);
     Ok(())
+}
+
+/// A finish that is refused whatever is freed, and leaves all that is lent.
+fn refused<R: Rust>(
+    comparison: &mut Comparison,
+    form: Form,
+    save: &Save,
+    list: &List,
+    tables: &Lent,
+    freed: &[u32],
+    refusal: &Reply,
+) {
+    let places = tables.entries.len() + freed.len();
+    comparison
+        .recorder
+        .keep(4, R::PAGE_SIZE.to_string(), places, || {
+            let (pages, entries) = model::size(list);
+            Line::new(Kind::Finish)
+                .save(R::PAGE_SIZE, save)
+                .tables(tables, (pages, entries))
+                .array(freed)
+                .length(&tables.buffer)
+                .length(&tables.numbers)
+                .reply(refusal)
+                .places(&tables.pages, pages)
+                .places(&tables.entries, entries)
+                .places(&tables.buffer, 0)
+                .places(&tables.numbers, 0)
+        });
+    let mut got = tables.clone();
+    let reply = comparison.library.finish(form, save, freed, &mut got);
+    comparison.reports[FINISH].compare(refusal, &reply, got == *tables, || {
+        let (pages, entries) = (tables.pages.len(), tables.entries.len());
+        format!(
+            "page size {}, {save:?}, tables of {pages} and {entries}, {} freed",
+            R::PAGE_SIZE,
+            freed.len()
+        )
+    });
 }
 
 /// The state with just as much list as the save says, in the shape that this has.

@@ -129,33 +129,10 @@ impl Comparison<'_> {
                 walked.reply.clone()
             }
         };
-        let store = case.store.bytes();
-        let read = expected.number == 0;
-        let read_size = match model {
-            Ok(walked) if read => walked.size,
-            _ => 0,
-        };
-        let class = if read { &self.group } else { "" };
-        self.recorder.keep(
-            if read { 7 } else { 3 },
-            class.into(),
-            store.len() + bytes,
-            || {
-                Line::new(Kind::ReadValue)
-                    .number(case.page_size as u64)
-                    .array(&case.cell)
-                    .array(store)
-                    .length(&expected_table)
-                    .length(&expected_value)
-                    .reply(&expected)
-                    .places(&expected_table, found(model, &expected))
-                    .places(&expected_value, read_size)
-                    .long(self.long_class(case, model, &expected))
-            },
-        );
-        let reply = self
-            .library
-            .read_value(form, &case.cell, store, &mut table, &mut value);
+        self.record_read(case, model, &expected, &expected_table, &expected_value);
+        let reply =
+            self.library
+                .read_value(form, &case.cell, case.store.bytes(), &mut table, &mut value);
         let same = table == expected_table && value == expected_value;
         self.reports[READ].compare(&expected, &reply, same, || {
             format!(
@@ -164,6 +141,35 @@ impl Comparison<'_> {
                 difference("value", &expected_value, &value),
             )
         });
+    }
+
+    /// Keeps a reading.
+    fn record_read(
+        &self,
+        case: &Case,
+        model: &Result<Walked, Reply>,
+        expected: &Reply,
+        table: &[u32],
+        value: &[u8],
+    ) {
+        let store = case.store.bytes();
+        let (most, class, size) = match model {
+            Ok(walked) if expected.number == 0 => (7, &self.group[..], walked.size),
+            _ => (3, "", 0),
+        };
+        self.recorder
+            .keep(most, class.into(), store.len() + value.len(), || {
+                Line::new(Kind::ReadValue)
+                    .number(case.page_size as u64)
+                    .array(&case.cell)
+                    .array(store)
+                    .length(table)
+                    .length(value)
+                    .reply(expected)
+                    .places(table, found(model, expected))
+                    .places(value, size)
+                    .long(self.long_class(case, model, expected))
+            });
     }
 
     /// The library's deleting beside the model's, with room for so many numbers.
