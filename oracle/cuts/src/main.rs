@@ -21,13 +21,13 @@ usage: cuts [--short] [--seed N] [--self-test]
 /// The page sizes, each with how many saves a history has, how many histories there are, and how many
 /// random cuts are tried of a long save.
 const SIZES: [(usize, u64, u64, u64); 7] = [
-    (16, 120, 24, 60),
-    (20, 120, 24, 60),
-    (24, 120, 24, 60),
-    (28, 120, 24, 60),
-    (32, 120, 24, 60),
-    (1024, 100, 8, 40),
-    (4096, 80, 6, 30),
+    (16, 120, 240, 60),
+    (20, 120, 240, 60),
+    (24, 120, 240, 60),
+    (28, 120, 240, 60),
+    (32, 120, 240, 60),
+    (1024, 100, 120, 40),
+    (4096, 80, 120, 30),
 ];
 
 struct Options {
