@@ -1,5 +1,5 @@
-//! What the Rust does where the library refuses, or answers something else: the lines of
-//! docs/DIFFERENCES.md. All of it has to be seen, and nothing else.
+//! What the Rust does where the library refuses, or answers something else; docs/DIFFERENCES.md has an
+//! input for each. All of it has to be seen, and nothing else.
 
 use crate::{report::Report, Plan};
 
