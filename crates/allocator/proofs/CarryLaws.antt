@@ -10,10 +10,10 @@ use lib.Dec.{leb, eqb}
 use lib.ListN.{length, take}
 use lib.Seq.{sets, length-take-le}
 use borrow.Author.Tests.{leb-true, eqb-true}
-use Rattle.refusal.proofs.Cases.{and-true, or-true}
+use Rattle.laws.proofs.Tests.{and-true, or-true}
 use Rattle.page.specs.PageSize.{capacity}
 use Rattle.page.specs.Pages.{Write}
-use Rattle.page.proofs.SetsLaws.{take-sets}
+use Rattle.laws.proofs.SetsLaws.{take-sets}
 use Rattle.free_list.specs.Shape.{isShape, isFragmented}
 use Rattle.preallocate.specs.Plan.{room}
 use Rattle.preallocate.specs.declared.turns.Plan.{Plan as Counts}

@@ -9,10 +9,10 @@ use lib.Dec.{ltb}
 use lib.ListN.{length, getD, take}
 use lib.Seq.{sets, length-take-le}
 use Rattle.refusal.specs.Outcome.{answer}
-use Rattle.page.specs.PageSize.{PageSize, capacity}
+use Rattle.page.specs.PageSize.{IsPageSize, capacity}
 use Rattle.page.proofs.PageSizeLaws.{page-least}
 use Rattle.page.specs.Pages.{Write}
-use Rattle.page.proofs.SetsLaws.{take-sets}
+use Rattle.laws.proofs.SetsLaws.{take-sets}
 use Rattle.page.specs.Growth.{maxBump, grown}
 use Rattle.preallocate.specs.Counts.{counts, Planable}
 use Rattle.preallocate.specs.declared.turns.Plan.{Plan as Counts}
@@ -24,7 +24,7 @@ use Rattle.allocator.proofs.SomeLaws.{plan-some}
 use Rattle.allocator.proofs.FinishLaws.{effect, refusedAs, refused-limit, refused-freed, refused-pages, refused-entries, refused-bytes, refused-numbers, finish-done, finished-changed}
 use Rattle.allocator.proofs.CarryLaws.{bounds, pages-count, entries-count, written-count}
 
-pub capacity-fits : {s : ℕ} → PageSize s → capacity s ≤ 16384
+pub capacity-fits : {s : ℕ} → IsPageSize s → capacity s ≤ 16384
 unfolding capacity
 capacity-fits {s} size = omega (arith, size .limit, div-mul-le-self (s - 6) 4)
 

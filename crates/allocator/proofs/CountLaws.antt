@@ -11,7 +11,7 @@ use lib.Dec.{leb, eqb}
 use lib.ListN.{length, getD, take, drop, take-append-drop}
 use lib.Seq.{take-suc}
 use borrow.Author.Tests.{leb-true, leb-false}
-use Rattle.refusal.proofs.Cases.{cond-cases}
+use Rattle.laws.proofs.Tests.{cond-cases}
 use Rattle.free_list.specs.Shape.{FreeList, isShape}
 use Rattle.preallocate.specs.Plan.{Plan, swapTop, takeEntry, takeLast, takeBump, planOf}
 use Rattle.allocator.specs.Finish.{newList}

@@ -11,8 +11,8 @@ use lib.Seq.{sets, length-take-le, getD-take}
 use Rattle.page.specs.PageSize.{capacity}
 use Rattle.page.specs.Pages.{Write}
 use Rattle.page.proofs.PageSizeLaws.{page-least}
-use Rattle.page.proofs.SetsLaws.{sets-append}
-use Rattle.page.proofs.PlacesLaws.{part-of-first}
+use Rattle.laws.proofs.SetsLaws.{sets-append}
+use Rattle.laws.proofs.PlacesLaws.{part-of-first}
 use Rattle.free_list.specs.ListPages.{encodeListPage}
 use Rattle.free_list.specs.Shape.{FreeList, entriesBelow, entriesOn}
 use Rattle.free_list.proofs.ListPagesLaws.{length-encoded}

@@ -9,7 +9,7 @@ use lib.ListN.{length, take}
 use lib.Seq.{sets, length-take-le}
 use borrow.Author.Tests.{le-leb, lt-leb, eq-eqb, ne-eqb}
 use Rattle.refusal.specs.Outcome.{Outcome, answer, refused}
-use Rattle.refusal.proofs.Cases.{and-false-right}
+use Rattle.laws.proofs.Tests.{and-false-right}
 use Rattle.page.specs.PageSize.{capacity}
 use Rattle.page.specs.Pages.{Write}
 use Rattle.page.specs.Growth.{maxBump}

@@ -9,7 +9,7 @@ use mathlib.Core.Logic.{_⊎_, inl, inr}
 use mathlib.Core.Bool.{true}
 use mathlib.Core.List.{List, [], _∷_, _++_, List·Memᴰ, List·Memᴰ·append-cases, List·Memᴰ·cases-cons, List·Memᴰ·not-nil, Memᴰ·cast}
 use lib.ListN.{length, getD}
-use Rattle.page.proofs.PlacesLaws.{getD-mem}
+use Rattle.laws.proofs.PlacesLaws.{getD-mem}
 use Rattle.free_list.specs.Shape.{FreeList, isShape}
 use Rattle.preallocate.specs.Plan.{Plan, pagesAfter, pushedAfter, emptied, swapTop, takeEntry, takeLast, takeBump, planOf}
 use Rattle.allocator.proofs.PushLaws.{Bounded, FirstCases, TurnCases, plan-run, plan-pushes}

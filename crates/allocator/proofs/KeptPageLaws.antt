@@ -12,7 +12,7 @@ use lib.ListN.{length, getD, take, drop, length-append, length-drop, List·getD-
 use lib.Seq.{length-take-le, getD-take, getD-at, take-append-le, drop-append-le}
 use borrow.Author.Tests.{le-leb, ne-eqb}
 use Rattle.page.specs.PageSize.{capacity}
-use Rattle.page.proofs.PlacesLaws.{part-of-first}
+use Rattle.laws.proofs.PlacesLaws.{part-of-first}
 use Rattle.free_list.specs.ListPages.{encodeListPage}
 use Rattle.free_list.specs.Shape.{FreeList, isShape, isFragmented, entriesBelow, entriesOn}
 use Rattle.free_list.proofs.BelowLaws.{fragmented-is, below-inner, below-head}

@@ -8,9 +8,9 @@ use lib.Dec.{leb}
 use lib.ListN.{length, getD, take, drop, length-append, drop-of-length-le}
 use lib.Seq.{sets, length-take-le, take-take, drop-at, drop-cons}
 use borrow.Author.Tests.{leb-true, leb-false, le-leb, lt-leb}
-use Rattle.refusal.proofs.Cases.{cond-cases}
+use Rattle.laws.proofs.Tests.{cond-cases}
 use Rattle.page.specs.Pages.{Write}
-use Rattle.page.proofs.SetsLaws.{sets-kept}
+use Rattle.laws.proofs.SetsLaws.{sets-kept}
 use Rattle.free_list.specs.Shape.{FreeList}
 use Rattle.preallocate.specs.Plan.{Plan}
 use Rattle.allocator.specs.Finish.{newList, encodedPage, encodedPages}

@@ -10,7 +10,7 @@ use lib.Dec.{leb, ltb, eqb}
 use lib.ListN.{length, getD, drop, length-append, length-drop, length-reverse, drop-of-length-le}
 use lib.Seq.{drop-cons}
 use borrow.Author.Tests.{leb-true, leb-false, eqb-true, eqb-false}
-use Rattle.refusal.proofs.Cases.{cond-cases, and-true, and-false, or-true}
+use Rattle.laws.proofs.Tests.{cond-cases, and-true, and-false, or-true}
 use Rattle.free_list.specs.Shape.{FreeList, isShape, isFragmented}
 use Rattle.free_list.proofs.BelowLaws.{fragmented-is}
 use Rattle.preallocate.specs.Plan.{Plan, pagesFor, room, pagesAfter, pushedAfter, noneLeft, renumbered, mended, emptied, firstPlan, swapTop, takeEntry, takeLast, takeBump, nextPlan, enoughRoom, planOf}

@@ -13,11 +13,12 @@ use lib.ListN.{length, getD, take, drop, length-take, length-drop, length-append
 use lib.Seq.{getD-take, getD-drop, take-suc, take-add, take-length, length-take-le, take-append-le, drop-append-le, drop-at, getD-at}
 use borrow.Author.Tests.{le-leb, leb-true, lt-ltb, ltb-true, eq-eqb, ne-eqb, eqb-true}
 use Rattle.refusal.specs.Outcome.{answer}
-use Rattle.refusal.proofs.Cases.{unanswer, check-answer, cond-cases, and-true, or-true}
-use Rattle.page.specs.PageSize.{PageSize, capacity}
+use Rattle.laws.proofs.Tests.{cond-cases, and-true, or-true}
+use Rattle.refusal.proofs.OutcomeLaws.{unanswer, check-answer}
+use Rattle.page.specs.PageSize.{IsPageSize, capacity}
 use Rattle.page.specs.Pages.{pageCount, pageAt, writePage, writePages}
 use Rattle.page.specs.Growth.{maxBump}
-use Rattle.page.proofs.PlacesLaws.{getD-mem, part-mem, at-places}
+use Rattle.laws.proofs.PlacesLaws.{getD-mem, part-mem, at-places}
 use Rattle.page.proofs.PageSizeLaws.{page-least, page-room}
 use Rattle.page.proofs.PagesLaws.{page-within, pageCount-mono, pageCount-fits, length-written, page-same, page-other}
 use Rattle.preallocate.specs.Plan.{Plan, planOf}
@@ -468,7 +469,7 @@ module _ (c : ℕ) (l : FreeList) (k : ℕ) (freed : List ℕ) (bump : ℕ) (two
 
 -- ---- the pages of a list as encoded
 
-page-few : (s n : ℕ) → PageSize s → n ≤ capacity s → n < 2 ^ 16
+page-few : (s n : ℕ) → IsPageSize s → n ≤ capacity s → n < 2 ^ 16
 unfolding capacity
 page-few s n size h = omega (arith, size .limit)
 
@@ -478,7 +479,7 @@ on-mem c l j x m =
     let below = entriesBelow c (length (l .pages)) (length (l .entries)) in
     part-mem x (below (j + 1) - below j) (below j) (l .entries) m
 
-module _ (s : ℕ) (size : PageSize s) (m : FreeList) (shape : isShape (capacity s) (length (m .pages)) (length (m .entries)) ≡ true) where
+module _ (s : ℕ) (size : IsPageSize s) (m : FreeList) (shape : isShape (capacity s) (length (m .pages)) (length (m .entries)) ≡ true) where
   abbrev cap : ℕ
   cap = capacity s
 
@@ -575,7 +576,7 @@ module _ (s : ℕ) (m : FreeList) (long : (j : ℕ) → j < length (m .pages) �
 
 -- ---- the new list reads back
 
-module _ (s : ℕ) (size : PageSize s) (l : FreeList) (k : ℕ) (freed : List ℕ) (bump : ℕ) (store : List ℕ) (held : Held s store l) (sound : Sound l bump)
+module _ (s : ℕ) (size : IsPageSize s) (l : FreeList) (k : ℕ) (freed : List ℕ) (bump : ℕ) (store : List ℕ) (held : Held s store l) (sound : Sound l bump)
     (kL : k ≤ length (l .entries)) (changed : eqb k 0 && eqb (length freed) 0 ≡ false) (limit : planOf (capacity s) l k freed bump .bump ≤ 2 ^ 32 - 1) where
   abbrev made : Plan
   made = planOf (capacity s) l k freed bump
@@ -965,7 +966,7 @@ module _ (s : ℕ) (store : List ℕ) where
 
 -- ---- what a finish makes reads back
 
-module _ (s : ℕ) (size : PageSize s) (l : FreeList) (store : List ℕ) (head : ℕ) (read : readList s store head ≡ answer l)
+module _ (s : ℕ) (size : IsPageSize s) (l : FreeList) (store : List ℕ) (head : ℕ) (read : readList s store head ≡ answer l)
     (bump handed : ℕ) (freed : List ℕ) (sound : Sound l bump) where
   -- what a finish makes reads back from the store that its pages were written to
   abbrev ReadsBack : Finished → Type 0
@@ -1016,7 +1017,7 @@ good-freed limit (x ∷ ns) e n m = go (leb 1 x && ltb x limit) refl (good-freed
 -- A list was read from a store, and a save of it was finished: from the store that the pages were written to, reading from the new head
 -- gives the new list. Asked for are a list that is sound, and a store that has pages for the freed numbers once the pages are written;
 -- it is grown to the recorded length before.
-pub finished-reads : (s : ℕ) → PageSize s → (v : Save) (store : List ℕ) (head : ℕ) → readList s store head ≡ answer (listOf v) → Sound (listOf v) (bumped v)
+pub finished-reads : (s : ℕ) → IsPageSize s → (v : Save) (store : List ℕ) (head : ℕ) → readList s store head ≡ answer (listOf v) → Sound (listOf v) (bumped v)
     → (freed : List ℕ) (bytesLent numbersLent : ℕ) {f : Finished} → finish s v freed bytesLent numbersLent ≡ answer f
     → ((n : ℕ) → List·Memᴰ n freed → n < pageCount s (writePages s store (f .written)))
     → readList s (writePages s store (f .written)) (headOf (f .list)) ≡ answer (f .list)

@@ -9,10 +9,10 @@ use lib.Dec.{eqb, ltb}
 use lib.ListN.{length, getD, take}
 use lib.Seq.{sets, length-take-le}
 use Rattle.refusal.specs.Outcome.{answer}
-use Rattle.refusal.proofs.Cases.{cond-cases}
-use Rattle.page.specs.PageSize.{PageSize, capacity}
+use Rattle.laws.proofs.Tests.{cond-cases}
+use Rattle.page.specs.PageSize.{IsPageSize, capacity}
 use Rattle.page.specs.Growth.{maxBump, grown}
-use Rattle.page.proofs.SetsLaws.{sets-kept}
+use Rattle.laws.proofs.SetsLaws.{sets-kept}
 use Rattle.preallocate.proofs.PlanLaws.{plan-bump}
 use Rattle.allocator.specs.OpenSave.{Save, listOf, bumped, stateFits}
 use Rattle.allocator.specs.Finish.{Finished, firstBad, headOf, carriedOut, finishList, finished, finishAnswer, finishInto, bytesOfPages}
@@ -20,7 +20,7 @@ use Rattle.allocator.proofs.SaveLaws.{stands}
 use Rattle.allocator.proofs.FinishLaws.{effect, finish-done, finished-same}
 
 -- the bump is not lowered
-pub bump-raised : (s : ℕ) (v : Save) (freed : List ℕ) → PageSize s → stateFits s v ≡ true → bumped v ≤ finished s v freed .bump
+pub bump-raised : (s : ℕ) (v : Save) (freed : List ℕ) → IsPageSize s → stateFits s v ≡ true → bumped v ≤ finished s v freed .bump
 unfolding finished finishList carriedOut
 bump-raised s v freed size state =
     let st = stands s v state in

@@ -9,7 +9,7 @@ use lib.Dec.{leb, ltb, eqb}
 use borrow.Author.Tests.{le-leb, lt-leb, leb-true, ne-eqb, lt-ltb, le-ltb}
 use lib.ListN.{length, getD}
 use Rattle.refusal.specs.Outcome.{answer, refused}
-use Rattle.refusal.proofs.Cases.{and-true, and-true-right, and-false-right}
+use Rattle.laws.proofs.Tests.{and-true, and-true-right, and-false-right}
 use Rattle.page.specs.PageSize.{capacity}
 use Rattle.page.specs.Growth.{maxBump, grown}
 use Rattle.free_list.specs.Shape.{isShape}

@@ -8,7 +8,7 @@ use mathlib.Core.List.{List, [], _∷_, _++_, reverse}
 use lib.Dec.{eqb}
 use lib.ListN.{length, drop, length-append, length-reverse, length-drop}
 use borrow.Author.Tests.{eqb-false}
-use Rattle.refusal.proofs.Cases.{and-false}
+use Rattle.laws.proofs.Tests.{and-false}
 use Rattle.free_list.specs.Shape.{FreeList, isShape}
 use Rattle.preallocate.specs.Plan.{Plan, pagesAfter, pushedAfter, planOf}
 use Rattle.allocator.proofs.PushLaws.{shape-is, one-of-product, FirstCases, TurnCases, plan-run}

@@ -10,7 +10,7 @@ use lib.Dec.{leb}
 use lib.ListN.{length, getD, take, drop, set, length-take, length-drop, length-reverse, drop-of-length-le}
 use lib.Seq.{sets, take-suc, take-length, drop-cons, length-take-le, length-sets, getD-take}
 use borrow.Author.Tests.{le-leb, lt-ltb, le-ltb}
-use Rattle.page.proofs.SetsLaws.{sets-append, sets-snoc, sets-swapped}
+use Rattle.laws.proofs.SetsLaws.{sets-append, sets-snoc, sets-swapped}
 use Rattle.allocator.specs.Finish.{firstBad}
 use Rattle.allocator.specs.Steps.{swapIf, pushList}
 

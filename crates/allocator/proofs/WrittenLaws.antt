@@ -11,9 +11,9 @@ use lib.Dec.{leb, eqb}
 use lib.ListN.{length, getD, take, length-append}
 use lib.Seq.{length-take-le, getD-append-add}
 use borrow.Author.Tests.{leb-true, leb-false}
-use Rattle.refusal.proofs.Cases.{cond-cases}
+use Rattle.laws.proofs.Tests.{cond-cases}
 use Rattle.page.specs.PageSize.{capacity}
-use Rattle.page.proofs.PlacesLaws.{getD-mem}
+use Rattle.laws.proofs.PlacesLaws.{getD-mem}
 use Rattle.free_list.specs.Shape.{FreeList, isShape}
 use Rattle.preallocate.specs.Plan.{Plan, planOf}
 use Rattle.allocator.specs.Finish.{newList}

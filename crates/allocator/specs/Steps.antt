@@ -5,7 +5,7 @@ use mathlib.Core.Bool.{Bool, true, false, _&&_, cond}
 use mathlib.Core.List.{List, [], _∷_, _++_, reverse}
 use lib.Dec.{leb, eqb}
 use lib.ListN.{length, getD, take, drop}
-use Rattle.page.specs.PageSize.{PageSize, capacity}
+use Rattle.page.specs.PageSize.{IsPageSize, capacity}
 use Rattle.free_list.specs.Shape.{FreeList}
 use Rattle.page.specs.Growth.{maxBump}
 use Rattle.preallocate.specs.Plan.{Plan, planOf}
@@ -32,7 +32,7 @@ tableList pages entries P L = record { pages = take P pages; entries = take L en
 
 -- it has the shape, and some entries
 pub record Listed (s : ℕ) (pages entries : List ℕ) (P L : ℕ) : Type 0 where
-  pub size : PageSize s
+  pub size : IsPageSize s
   pub some : 1 ≤ L
   pub most : L ≤ capacity s * P
   pub least : capacity s * (P - 1) ≤ L
@@ -56,7 +56,7 @@ carriedIn s pages entries P L popped freed bump = carriedOut s (tableList pages 
 
 -- these numbers are those of the plan
 pub record Planned (s : ℕ) (pages entries : List ℕ) (P L popped bump : ℕ) (freed : List ℕ) (planned : Counts) : Type 0 where
-  pub size : PageSize s
+  pub size : IsPageSize s
   pub planable : Planable (capacity s) pages entries P L popped bump
   pub is : planned ≡ counts (planIn (capacity s) pages entries P L popped freed bump)
 
@@ -72,7 +72,7 @@ pub record Writable (s : ℕ) (pages entries : List ℕ) (P L popped bump : ℕ)
 
 -- a save that stands, with something popped or freed
 pub record Changed (s : ℕ) (v : Save) (freed : List ℕ) (popped bump : ℕ) : Type 0 where
-  pub size : PageSize s
+  pub size : IsPageSize s
   pub state : stateFits s v ≡ true
   pub pops : popped ≡ min (v .handed) (v .L)
   pub bumps : bump ≡ bumped v

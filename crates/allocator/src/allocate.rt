@@ -1,7 +1,7 @@
 // Handing out a number.
 ghost use mathlib.Core.Path.{_≡_};
 ghost use Prim.Native.Nat.{_<_, _≤_};
-ghost use Rattle.page.specs.PageSize.{PageSize, pageSize};
+ghost use Rattle.page.specs.PageSize.{IsPageSize, pageSize};
 ghost use Rattle.page.specs.Growth.{maxBump, grown};
 ghost use Rattle.allocator.specs.OpenSave.{handOut};
 ghost use Rattle.allocator.specs.Answers.{saveOf, allocatedOutcome, advanced as Answers·advanced, recordedFor};
@@ -29,7 +29,7 @@ pub fn allocate(save: Save, pages: &[u32], entries: &[u32]) -> Allocated
 
 // The same at any page size.
 pub fn allocate_from(size: usize, save: Save, pages: &[u32], entries: &[u32]) -> Allocated
-    requires { ⌜ PageSize size ⌝ }
+    requires { ⌜ IsPageSize size ⌝ }
     ensures { λ r. ⌜ allocatedOutcome (now (pages .entry)) (now (entries .entry)) r ≡ handOut size (saveOf save (now (pages .entry)) (now (entries .entry))) ⌝ }
 {
     if !state_fits(size, save, pages, entries) {

@@ -8,7 +8,7 @@ ghost use Prim.Native.Nat.{_+_, _*_, _-_, min, _≤_, _<_};
 ghost use lib.Dec.{eqb, ltb};
 ghost use lib.ListN.{length, getD, take};
 ghost use lib.Seq.{sets};
-ghost use Rattle.page.specs.PageSize.{PageSize, pageSize};
+ghost use Rattle.page.specs.PageSize.{IsPageSize, pageSize};
 ghost use Rattle.page.specs.Pages.{Write};
 ghost use Rattle.page.specs.Growth.{maxBump, grown};
 ghost use Rattle.free_list.specs.Shape.{isFragmented};
@@ -72,7 +72,7 @@ pub fn finish_save(
     buffer: &mut [u8],
     numbers: &mut [u32],
 ) -> Finishing
-    requires { ⌜ PageSize size ⌝ }
+    requires { ⌜ IsPageSize size ⌝ }
     ensures { λ r. ⌜ _≡_ {A = FinishEffect} (record { outcome = finishOutcome r; pages = now (pages .exit); entries = now (entries .exit); buffer = now (buffer .exit); numbers = now (numbers .exit) }) (finishInto size (saveOf save (now (pages .entry)) (now (entries .entry))) (now (freed .entry)) (now (buffer .entry)) (now (numbers .entry))) ⌝ }
 {
     if !state_fits(size, save, pages, entries) {

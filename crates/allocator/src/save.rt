@@ -1,7 +1,7 @@
 // The open save, which goes in by value and comes back, beside the two lent tables of its list.
 ghost use mathlib.Core.Path.{_≡_};
 ghost use Prim.Native.Nat.{_≤_};
-ghost use Rattle.page.specs.PageSize.{PageSize};
+ghost use Rattle.page.specs.PageSize.{IsPageSize};
 ghost use Rattle.free_list.specs.Shape.{isShape};
 ghost use Rattle.allocator.specs.OpenSave.{stateFits};
 ghost use Rattle.allocator.specs.Answers.{saveOf};
@@ -36,7 +36,7 @@ pub(crate) fn shape_fits(c: usize, pages: usize, entries: usize) -> bool
 
 // Whether the save is one that can go on.
 pub(crate) fn state_fits(size: usize, save: Save, pages: &[u32], entries: &[u32]) -> bool
-    requires { ⌜ PageSize size ⌝ }
+    requires { ⌜ IsPageSize size ⌝ }
     ensures { λ r. ⌜ r ≡ stateFits size (saveOf save (now (pages .entry)) (now (entries .entry))) ⌝ }
 {
     if save.bump == 0 {

@@ -7,7 +7,7 @@ use mathlib.Core.Path.{_≡_, refl, ap, sym, _∙_}
 use mathlib.Core.Bool.{Bool, true, false}
 use lib.Dec.{leb, eqb}
 use borrow.Author.Tests.{le-leb, lt-leb, leb-true, eqb-true}
-use Rattle.refusal.proofs.Cases.{and-true, and-false-right}
+use Rattle.laws.proofs.Tests.{and-true, and-false-right}
 use Rattle.free_list.specs.Shape.{isFragmented, entriesBelow}
 
 -- a fragmented list has just the entries of one page less

@@ -9,7 +9,7 @@ use lib.ListN.{length, set, length-append, length-set}
 use lib.Seq.{sets, length-sets}
 use Rattle.page.specs.PageSize.{capacity}
 use Rattle.page.specs.Pages.{pageCount, pageAt}
-use Rattle.page.proofs.SetsLaws.{sets-append, sets-comm}
+use Rattle.laws.proofs.SetsLaws.{sets-append, sets-comm}
 use Rattle.free_list.specs.ListPages.{prevOf, countOf, entriesOf}
 use Rattle.free_list.specs.Steps.{chainFrom, Readable}
 use Rattle.free_list.proofs.ListPagesLaws.{length-entriesOf}

@@ -9,7 +9,7 @@ use lib.ListN.{length}
 use lib.Seq.{sets}
 use borrow.Author.Tests.{le-leb, lt-leb}
 use Rattle.refusal.specs.Outcome.{Outcome, answer, refused}
-use Rattle.refusal.proofs.Cases.{withAnswer-answer, withAnswer-refused}
+use Rattle.refusal.proofs.OutcomeLaws.{withAnswer-answer, withAnswer-refused}
 use Rattle.page.specs.Pages.{pageCount}
 use Rattle.free_list.specs.Shape.{FreeList}
 use Rattle.free_list.specs.Reading.{readList, ListSize, sizeOf, ReadEffect, readInto}

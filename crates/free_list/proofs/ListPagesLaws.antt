@@ -9,7 +9,7 @@ use lib.ListN.{length, getD, replicate, length-append, length-replicate}
 use borrow.Author.Tests.{le-leb, lt-leb}
 use lib.Seq.{sets, getD-append-add}
 use Rattle.page.specs.Bytes.{numberAt, bytesOf, numbersAt, bytesOfAll}
-use Rattle.page.proofs.SetsLaws.{sets-append, sets-whole}
+use Rattle.laws.proofs.SetsLaws.{sets-append, sets-whole}
 use Rattle.page.proofs.BytesLaws.{numberAt-same, numberAt-append-left, numberAt-append-right, numbersAt-same, numberAt-bytesOf, numbersAt-bytesOfAll, length-bytesOf, length-numbersAt, length-bytesOfAll}
 use Rattle.free_list.specs.ListPages.{prevOf, countOf, entriesOf, encodeListPage, prevWithin, countWithin, entryWithin}
 

@@ -11,7 +11,8 @@ use lib.Dec.{leb, ltb, eqb}
 use lib.ListN.{length, length-append}
 use borrow.Author.Tests.{lt-ltb, le-ltb, leb-true, ltb-true, eqb-true, ne-eqb}
 use Rattle.refusal.specs.Outcome.{Outcome, answer, refused, check, withAnswer}
-use Rattle.refusal.proofs.Cases.{unanswer, check-answer, withAnswer-answer, cond-cases, and-true, and-true-right, and-false-right, or-true}
+use Rattle.laws.proofs.Tests.{cond-cases, and-true, and-true-right, and-false-right, or-true}
+use Rattle.refusal.proofs.OutcomeLaws.{unanswer, check-answer, withAnswer-answer}
 use Rattle.page.specs.Bytes.{numberAt, numbersAt}
 use Rattle.page.specs.PageSize.{capacity}
 use Rattle.page.proofs.BytesLaws.{numbersAt-snoc}

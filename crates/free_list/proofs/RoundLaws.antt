@@ -8,7 +8,7 @@ use mathlib.Core.List.{List, []}
 use lib.Dec.{eqb, leb}
 use borrow.Author.Tests.{lt-ltb, eq-eqb, ne-eqb, eqb-true, leb-true}
 use Rattle.refusal.specs.Outcome.{refused}
-use Rattle.refusal.proofs.Cases.{and-true}
+use Rattle.laws.proofs.Tests.{and-true}
 use Rattle.page.specs.PageSize.{capacity}
 use Rattle.page.specs.Pages.{pageCount, pageAt}
 use Rattle.free_list.specs.ListPages.{prevOf, countOf}

@@ -10,7 +10,7 @@ use lib.Dec.{leb, ltb, eqb}
 use lib.ListN.{length, length-append}
 use borrow.Author.Tests.{le-leb, leb-true, ltb-true, eqb-true, eqb-false}
 use Rattle.refusal.specs.Outcome.{answer}
-use Rattle.refusal.proofs.Cases.{cond-cases, and-true, or-true, or-true-right}
+use Rattle.laws.proofs.Tests.{cond-cases, and-true, or-true, or-true-right}
 use Rattle.page.specs.PageSize.{capacity}
 use Rattle.page.specs.Pages.{pageCount, pageAt}
 use Rattle.free_list.specs.ListPages.{countOf, entriesOf}

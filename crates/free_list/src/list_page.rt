@@ -5,7 +5,7 @@ ghost use mathlib.Core.Path.{_≡_};
 ghost use Prim.Native.Nat.{_+_, _*_, _≤_};
 ghost use lib.ListN.{length, take, drop};
 ghost use Rattle.page.specs.Bytes.{numberAt};
-ghost use Rattle.page.specs.PageSize.{PageSize, capacity};
+ghost use Rattle.page.specs.PageSize.{IsPageSize, capacity};
 ghost use Rattle.free_list.specs.ListPages.{prevOf, countOf, encodeListPage};
 use page::fill::clear;
 use page::little_endian::read_u16;
@@ -41,7 +41,7 @@ pub fn item(page: &[u8], i: usize) -> PageNumber
 
 // How many entries a list page of `size` bytes holds at most.
 pub fn max_pns_per_page(size: usize) -> usize
-    requires { ⌜ PageSize size ⌝ }
+    requires { ⌜ IsPageSize size ⌝ }
     ensures { λ r. ⌜ r ≡ capacity size ⌝ }
 {
     (size - 6) / 4
@@ -56,7 +56,7 @@ pub fn encode_free_list_page(
     n: usize,
     page: &mut [u8],
 )
-    requires { ⌜ PageSize size × (length (now page) ≡ size) × (n ≤ capacity size) × (from + n ≤ length (now entries)) ⌝ }
+    requires { ⌜ IsPageSize size × (length (now page) ≡ size) × (n ≤ capacity size) × (from + n ≤ length (now entries)) ⌝ }
     ensures { λ _. ⌜ now (page .exit) ≡ encodeListPage size (prev .0) (take n (drop from (now (entries .entry)))) ⌝ }
 {
     let before = prev.0;

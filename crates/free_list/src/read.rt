@@ -3,7 +3,7 @@ ghost use mathlib.Core.Path.{_≡_};
 ghost use Prim.Native.Nat.{_≤_};
 ghost use lib.ListN.{length};
 ghost use lib.Seq.{sets};
-ghost use Rattle.page.specs.PageSize.{PageSize, pageSize};
+ghost use Rattle.page.specs.PageSize.{IsPageSize, pageSize};
 ghost use Rattle.free_list.specs.Reading.{ReadEffect, readInto, readOutcome};
 ghost use Rattle.free_list.specs.Steps.{readSize, chainFrom, Readable};
 use crate::page_ref::header;
@@ -42,7 +42,7 @@ pub fn read_list(
     pages: &mut [u32],
     entries: &mut [u32],
 ) -> ReadList
-    requires { ⌜ PageSize size ⌝ }
+    requires { ⌜ IsPageSize size ⌝ }
     ensures { λ r. ⌜ _≡_ {A = ReadEffect} (record { outcome = readOutcome r; pages = now (pages .exit); entries = now (entries .exit) }) (readInto size (now (store .entry)) (head .0) (now (pages .entry)) (now (entries .entry))) ⌝ }
 {
     let first = head.0;
@@ -64,7 +64,7 @@ pub fn read_list(
 // The size of the list, or why it is refused: the walk, as often as it takes. Where it stands is marked each time that it has come
 // twice as far, so that a list whose pages point at each other is seen soon after the walk has gone round once.
 fn measure(store: &[u8], size: usize, head: u32) -> ReadList
-    requires { ⌜ PageSize size ⌝ }
+    requires { ⌜ IsPageSize size ⌝ }
     ensures { λ r. ⌜ readOutcome r ≡ readSize size (now (store .entry)) head ⌝ }
 {
     let count = page_count(store, size);
@@ -104,7 +104,7 @@ fn fill(
     pages: &mut [u32],
     entries: &mut [u32],
 )
-    requires { ⌜ PageSize size × Readable size (now store) (list .pages) head × (length (chainFrom size (now store) (list .pages) head .entries) ≡ list .entries) × (list .pages ≤ length (now pages)) × (list .entries ≤ length (now entries)) ⌝ }
+    requires { ⌜ IsPageSize size × Readable size (now store) (list .pages) head × (length (chainFrom size (now store) (list .pages) head .entries) ≡ list .entries) × (list .pages ≤ length (now pages)) × (list .entries ≤ length (now entries)) ⌝ }
     ensures pages { λ _. ⌜ now (pages .exit) ≡ sets (now (pages .entry)) 0 (chainFrom size (now (store .entry)) (list .pages) head .pages) ⌝ }
     ensures entries { λ _. ⌜ now (entries .exit) ≡ sets (now (entries .entry)) 0 (chainFrom size (now (store .entry)) (list .pages) head .entries) ⌝ }
 {

@@ -5,7 +5,7 @@ ghost use lib.Dec.{leb, ltb, eqb};
 ghost use Prim.Native.Nat.{_+_, _*_, _<_, _≤_};
 ghost use lib.ListN.{length};
 ghost use Rattle.page.specs.Bytes.{numbersAt};
-ghost use Rattle.page.specs.PageSize.{PageSize};
+ghost use Rattle.page.specs.PageSize.{IsPageSize};
 ghost use Rattle.page.specs.Pages.{pageCount};
 ghost use Rattle.free_list.specs.Reading.{countFits, entriesFit};
 ghost use Rattle.free_list.specs.Steps.{sizeFrom, visitedSize, walkedSize, Sound, Marked, Advanced, Onward};
@@ -80,7 +80,7 @@ fn entries_fit(page: &[u8], n: usize, count: u32) -> bool
 
 // Visits the page at which a walk stands.
 fn visit(store: &[u8], size: usize, count: u32, w: Walk) -> Visited
-    requires { ⌜ PageSize size × (count ≡ pageCount size (now store)) × (1 ≤ w .page) × (1 ≤ w .allowed) × Sound w ⌝ }
+    requires { ⌜ IsPageSize size × (count ≡ pageCount size (now store)) × (1 ≤ w .page) × (1 ≤ w .allowed) × Sound w ⌝ }
     ensures size { λ r. ⌜ visitedSize size (now (store .entry)) r ≡ sizeFrom size (now (store .entry)) w ⌝ }
     ensures advanced { λ r. ⌜ Advanced size (now (store .entry)) w r ⌝ }
 {
@@ -123,7 +123,7 @@ pub(crate) fn walk_down(
     mark: u32,
     nested: usize,
 ) -> Walked
-    requires { ⌜ PageSize size × (count ≡ pageCount size (now store)) × Sound w × Marked size (now store) mark w ⌝ }
+    requires { ⌜ IsPageSize size × (count ≡ pageCount size (now store)) × Sound w × Marked size (now store) mark w ⌝ }
     ensures size { λ r. ⌜ walkedSize size (now (store .entry)) r ≡ sizeFrom size (now (store .entry)) w ⌝ }
     ensures onward { λ r. ⌜ Onward size (now (store .entry)) mark w nested r ⌝ }
 {

@@ -8,7 +8,7 @@ use native.Mathlib.Omega.{arith}
 use borrow.Author.Tests.{lt-ltb, le-ltb, leb-true}
 use lib.Dec.{leb, ltb}
 use lib.ListN.{length, length-append}
-use Rattle.refusal.proofs.Cases.{cond-cases, and-true}
+use Rattle.laws.proofs.Tests.{cond-cases, and-true}
 use Rattle.io.specs.Digits.{digits, glyph, Fewest}
 use Rattle.listing.specs.Decimal.{isDigit, allDigits, decimalAfter, digitsUpTo, digitsOf}
 

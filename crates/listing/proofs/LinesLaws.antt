@@ -10,7 +10,7 @@ use lib.Dec.{eqb}
 use lib.ListN.{length, getD, take, drop, length-drop, drop-of-length-le}
 use lib.Seq.{drop-cons}
 use borrow.Author.Tests.{eq-eqb, ne-eqb}
-use Rattle.refusal.proofs.Cases.{cond-cases}
+use Rattle.laws.proofs.Tests.{cond-cases}
 use Rattle.listing.specs.Lines.{newline, lineLength, endOfLine, linesAfter}
 
 lineLength-within : (bytes : List ℕ) → lineLength bytes ≤ length bytes

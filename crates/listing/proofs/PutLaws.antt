@@ -7,7 +7,7 @@ use native.Mathlib.Decide.{decLe}
 use native.Mathlib.Omega.{arith}
 use lib.ListN.{length, getD, take, drop, set, length-append, take-append-drop}
 use lib.Seq.{sets, length-sets, set-out, length-take-le, take-suc, take-length}
-use Rattle.page.proofs.SetsLaws.{sets-append, sets-snoc}
+use Rattle.laws.proofs.SetsLaws.{sets-append, sets-snoc}
 use Rattle.listing.specs.Put.{Put}
 
 -- nothing is put beyond the end

@@ -9,7 +9,7 @@ use lib.Dec.{leb}
 use lib.ListN.{length, length-append}
 use borrow.Author.Tests.{leb-true}
 use Rattle.refusal.specs.Outcome.{answer, check}
-use Rattle.refusal.proofs.Cases.{cond-cases, and-true}
+use Rattle.laws.proofs.Tests.{cond-cases, and-true}
 use Rattle.page.specs.PageSize.{pageSize}
 use Rattle.page.proofs.PageSizeLaws.{page-size}
 use Rattle.overflow.specs.Totals.{Total, maxSize, rawPages, totalPages, totalOf, pageTotal}

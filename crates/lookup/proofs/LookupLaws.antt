@@ -11,8 +11,9 @@ use lib.ListN.{length, getD, take, drop, drop-of-length-le}
 use lib.Seq.{drop-cons}
 use borrow.Author.Tests.{le-leb, lt-leb, lt-ltb, le-ltb, ltb-true, leb-true, eq-eqb, ne-eqb}
 use Rattle.refusal.specs.Outcome.{answer, refused}
-use Rattle.refusal.proofs.Cases.{unanswer, check-answer, cond-cases}
-use Rattle.page.specs.PageSize.{PageSize}
+use Rattle.laws.proofs.Tests.{cond-cases}
+use Rattle.refusal.proofs.OutcomeLaws.{unanswer, check-answer}
+use Rattle.page.specs.PageSize.{IsPageSize}
 use Rattle.page.specs.Pages.{pageCount}
 use Rattle.page.proofs.PageSizeLaws.{page-least}
 use Rattle.page.proofs.PagesLaws.{page-within}
@@ -47,7 +48,7 @@ room-enough s n b hs h = omega (arith, le-div-iff-mul-le {k = s} {x = n} {y = b}
 within-pages : (s i n b : ℕ) → i < n → s * n ≤ b → s * i + s ≤ b
 within-pages s i n b h room = omega (arith, mul-le-mul-left s h, mul-suc s i)
 
-page-some : {s : ℕ} → PageSize s → 0 < s
+page-some : {s : ℕ} → IsPageSize s → 0 < s
 page-some size = omega (arith, page-least size)
 
 -- the s bytes of a place lie in its slice
@@ -55,7 +56,7 @@ abbrev pub Within : ℕ → List ℕ → List ℕ → Place → Type 0
 Within s pending store (inPending at) = at + s ≤ length pending
 Within s pending store (inStore at) = at + s ≤ length store
 
-module _ {s : ℕ} (size : PageSize s) (numbers pending store : List ℕ) (page : ℕ) where
+module _ {s : ℕ} (size : IsPageSize s) (numbers pending store : List ℕ) (page : ℕ) where
   -- refusal 9
   pub find-short : length pending / s < length numbers → refused 9 [] ≡ find s numbers pending store page
   unfolding find

@@ -1,6 +1,6 @@
 // Where a page lies.
 ghost use mathlib.Core.Path.{_≡_};
-ghost use Rattle.page.specs.PageSize.{PageSize, pageSize};
+ghost use Rattle.page.specs.PageSize.{IsPageSize, pageSize};
 ghost use Rattle.lookup.specs.Lookup.{firstOf, find, findOutcome};
 use page::PAGE_SIZE;
 use page::number::PageNumber;
@@ -30,7 +30,7 @@ pub fn find_page(
     store: &[u8],
     page: PageNumber,
 ) -> Found
-    requires { ⌜ PageSize size ⌝ }
+    requires { ⌜ IsPageSize size ⌝ }
     ensures { λ r. ⌜ findOutcome r ≡ find size (now (numbers .entry)) (now (pending .entry)) (now (store .entry)) (page .0) ⌝ }
 {
     let number = page.0;

@@ -1,6 +1,6 @@
 // The bytes of a page.
 ghost use mathlib.Core.Path.{_≡_};
-ghost use Rattle.page.specs.PageSize.{PageSize, pageSize};
+ghost use Rattle.page.specs.PageSize.{IsPageSize, pageSize};
 ghost use Rattle.lookup.specs.Lookup.{lookup};
 use crate::find::Found;
 use crate::find::find_page;
@@ -22,7 +22,7 @@ pub fn lookup_page<'a>(
     store: &'a [u8],
     page: PageNumber,
 ) -> &'a [u8]
-    requires { ⌜ PageSize size ⌝ }
+    requires { ⌜ IsPageSize size ⌝ }
     ensures { λ r. ⌜ now r ≡ lookup size (now (numbers .entry)) (now (pending .entry)) (now (store .entry)) (page .0) ⌝ }
 {
     match find_page(size, numbers, pending, store, page) {

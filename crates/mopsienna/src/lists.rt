@@ -1,7 +1,7 @@
 // The free list: reading it from a store.
 ghost use mathlib.Core.Path.{_≡_};
 ghost use Rattle.refusal.specs.Outcome.{status, filled};
-ghost use Rattle.page.specs.PageSize.{PageSize, pageSize};
+ghost use Rattle.page.specs.PageSize.{IsPageSize, pageSize};
 ghost use Rattle.free_list.specs.Reading.{readInto};
 ghost use Rattle.mopsienna.specs.Lists.{readListValues};
 use free_list::read::ReadList;
@@ -34,7 +34,7 @@ pub fn read_list(
     entries: &mut [u32],
     out: &mut [u64; 8],
 ) -> u32
-    requires { ⌜ PageSize size ⌝ }
+    requires { ⌜ IsPageSize size ⌝ }
     ensures status { λ r. ⌜ r ≡ status (readListValues size (now (store .entry)) head (now (pages .entry)) (now (entries .entry))) ⌝ }
     ensures out { λ _. ⌜ now (out .exit) ≡ filled (now (out .entry)) (readListValues size (now (store .entry)) head (now (pages .entry)) (now (entries .entry))) ⌝ }
     ensures pages { λ _. ⌜ now (pages .exit) ≡ readInto size (now (store .entry)) head (now (pages .entry)) (now (entries .entry)) .pages ⌝ }

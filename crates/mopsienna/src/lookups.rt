@@ -1,7 +1,7 @@
 // Page lookup: where a page lies, in the pending pages of a save or in the store.
 ghost use mathlib.Core.Path.{_≡_};
 ghost use Rattle.refusal.specs.Outcome.{status, filled};
-ghost use Rattle.page.specs.PageSize.{PageSize, pageSize};
+ghost use Rattle.page.specs.PageSize.{IsPageSize, pageSize};
 ghost use Rattle.mopsienna.specs.Lookups.{lookupValues};
 use lookup::find::Found;
 use page::PAGE_SIZE;
@@ -31,7 +31,7 @@ pub fn lookup(
     page: u32,
     out: &mut [u64; 8],
 ) -> u32
-    requires { ⌜ PageSize size ⌝ }
+    requires { ⌜ IsPageSize size ⌝ }
     ensures status { λ r. ⌜ r ≡ status (lookupValues size (now (numbers .entry)) (now (pending .entry)) (now (store .entry)) page) ⌝ }
     ensures out { λ _. ⌜ now (out .exit) ≡ filled (now (out .entry)) (lookupValues size (now (numbers .entry)) (now (pending .entry)) (now (store .entry)) page) ⌝ }
 {

@@ -1,7 +1,7 @@
 // The open save: handing out numbers, and finishing.
 ghost use mathlib.Core.Path.{_≡_};
 ghost use Rattle.refusal.specs.Outcome.{status, filled};
-ghost use Rattle.page.specs.PageSize.{PageSize, pageSize};
+ghost use Rattle.page.specs.PageSize.{IsPageSize, pageSize};
 ghost use Rattle.allocator.specs.Finish.{finishInto};
 ghost use Rattle.allocator.specs.Answers.{saveOf};
 ghost use Rattle.mopsienna.specs.Saves.{openSave, handOutValues, finishValues};
@@ -73,7 +73,7 @@ pub extern "C" fn mopsienna_finish(
 
 // Handing out at any page size.
 pub fn hand_out(size: usize, save: Save, pages: &[u32], entries: &[u32], out: &mut [u64; 8]) -> u32
-    requires { ⌜ PageSize size ⌝ }
+    requires { ⌜ IsPageSize size ⌝ }
     ensures status { λ r. ⌜ r ≡ status (handOutValues size (saveOf save (now (pages .entry)) (now (entries .entry)))) ⌝ }
     ensures out { λ _. ⌜ now (out .exit) ≡ filled (now (out .entry)) (handOutValues size (saveOf save (now (pages .entry)) (now (entries .entry)))) ⌝ }
 {
@@ -101,7 +101,7 @@ pub fn finish(
     numbers: &mut [u32],
     out: &mut [u64; 8],
 ) -> u32
-    requires { ⌜ PageSize size ⌝ }
+    requires { ⌜ IsPageSize size ⌝ }
     ensures status { λ r. ⌜ r ≡ status (finishValues size (saveOf save (now (pages .entry)) (now (entries .entry))) (now (freed .entry)) (now (buffer .entry)) (now (numbers .entry))) ⌝ }
     ensures out { λ _. ⌜ now (out .exit) ≡ filled (now (out .entry)) (finishValues size (saveOf save (now (pages .entry)) (now (entries .entry))) (now (freed .entry)) (now (buffer .entry)) (now (numbers .entry))) ⌝ }
     ensures pages { λ _. ⌜ now (pages .exit) ≡ finishInto size (saveOf save (now (pages .entry)) (now (entries .entry))) (now (freed .entry)) (now (buffer .entry)) (now (numbers .entry)) .pages ⌝ }

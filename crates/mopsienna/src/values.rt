@@ -1,7 +1,7 @@
 // Values: writing their pages, their cells, reading and deleting.
 ghost use mathlib.Core.Path.{_≡_};
 ghost use Rattle.refusal.specs.Outcome.{status, filled};
-ghost use Rattle.page.specs.PageSize.{PageSize, pageSize};
+ghost use Rattle.page.specs.PageSize.{IsPageSize, pageSize};
 ghost use Rattle.overflow.specs.Cells.{encodeCellInto, decodeCellInto};
 ghost use Rattle.overflow.specs.ValuePages.{chunkInto};
 ghost use Rattle.overflow.specs.Reading.{readInto, deleteInto};
@@ -35,7 +35,7 @@ pub fn write_value_page(
     index: u64,
     page: &mut [u8],
 ) -> u32
-    requires { ⌜ PageSize size ⌝ }
+    requires { ⌜ IsPageSize size ⌝ }
     ensures status { λ r. ⌜ r ≡ status (writePageValues size (now (value .entry)) (now (numbers .entry)) index (now (page .entry))) ⌝ }
     ensures page { λ _. ⌜ now (page .exit) ≡ chunkInto size (now (value .entry)) (now (numbers .entry)) index (now (page .entry)) .buffer ⌝ }
 {
@@ -109,7 +109,7 @@ pub fn read_value(
     value: &mut [u8],
     out: &mut [u64; 8],
 ) -> u32
-    requires { ⌜ PageSize size ⌝ }
+    requires { ⌜ IsPageSize size ⌝ }
     ensures status { λ r. ⌜ r ≡ status (readValueValues size (now (bytes .entry)) (now (store .entry)) (now (numbers .entry)) (now (value .entry))) ⌝ }
     ensures out { λ _. ⌜ now (out .exit) ≡ filled (now (out .entry)) (readValueValues size (now (bytes .entry)) (now (store .entry)) (now (numbers .entry)) (now (value .entry))) ⌝ }
     ensures numbers { λ _. ⌜ now (numbers .exit) ≡ readInto size (now (bytes .entry)) (now (store .entry)) (now (numbers .entry)) (now (value .entry)) .numbers ⌝ }
@@ -148,7 +148,7 @@ pub fn delete_value(
     numbers: &mut [u32],
     out: &mut [u64; 8],
 ) -> u32
-    requires { ⌜ PageSize size ⌝ }
+    requires { ⌜ IsPageSize size ⌝ }
     ensures status { λ r. ⌜ r ≡ status (deleteValueValues size (now (bytes .entry)) (now (store .entry)) (now (numbers .entry))) ⌝ }
     ensures out { λ _. ⌜ now (out .exit) ≡ filled (now (out .entry)) (deleteValueValues size (now (bytes .entry)) (now (store .entry)) (now (numbers .entry))) ⌝ }
     ensures numbers { λ _. ⌜ now (numbers .exit) ≡ deleteInto size (now (bytes .entry)) (now (store .entry)) (now (numbers .entry)) .numbers ⌝ }

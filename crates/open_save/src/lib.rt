@@ -4,7 +4,7 @@
 // `OpenSave::hand_out` and `hand_out`, which lends a save of its own, are proved by hand. Whoever calls `hand_out` needs no such proof: its
 // parameters are plain.
 ghost use mathlib.Core.Path.{_≡_};
-ghost use Rattle.page.specs.PageSize.{PageSize, pageSize};
+ghost use Rattle.page.specs.PageSize.{IsPageSize, pageSize};
 ghost use Rattle.open_save.specs.CountUp.{countUp, saveOf, startOf, openOf, countedBy};
 use allocator::allocate::Allocated;
 use allocator::allocate::allocate_from;
@@ -76,7 +76,7 @@ impl OpenSave {
         pages: &[u32],
         entries: &[u32],
     ) -> HandedOut
-        requires { ⌜ PageSize size ⌝ }
+        requires { ⌜ IsPageSize size ⌝ }
         ensures { λ r. ⌜ countedBy r (now (self .exit)) ≡ countUp size (saveOf start (now (self .entry)) (now (pages .entry)) (now (entries .entry))) ⌝ }
     {
         let after = advance(size, start, *self, pages, entries);
@@ -94,7 +94,7 @@ pub fn next_number(start: Start, save: OpenSave, pages: &[u32], entries: &[u32])
 
 // The same at any page size.
 pub fn hand_out(size: usize, start: Start, save: OpenSave, pages: &[u32], entries: &[u32]) -> Handed
-    requires { ⌜ PageSize size ⌝ }
+    requires { ⌜ IsPageSize size ⌝ }
     ensures { λ r. ⌜ countedBy (r .answer) (r .save) ≡ countUp size (saveOf start save (now (pages .entry)) (now (entries .entry))) ⌝ }
 {
     let mut lent = save;
@@ -104,7 +104,7 @@ pub fn hand_out(size: usize, start: Start, save: OpenSave, pages: &[u32], entrie
 
 // What the method calls: the hand-out of a whole save, of which it keeps what changes.
 fn advance(size: usize, start: Start, save: OpenSave, pages: &[u32], entries: &[u32]) -> Handed
-    requires { ⌜ PageSize size ⌝ }
+    requires { ⌜ IsPageSize size ⌝ }
     ensures { λ r. ⌜ countedBy (r .answer) (r .save) ≡ countUp size (saveOf start save (now (pages .entry)) (now (entries .entry))) ⌝ }
 {
     let allocations = save.allocations;

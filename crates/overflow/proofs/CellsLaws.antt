@@ -10,9 +10,10 @@ use lib.ListN.{length, getD, take, drop, length-append}
 use lib.Seq.{sets, getD-append-add, take-all, take-at, drop-at}
 use borrow.Author.Tests.{le-leb, lt-leb, leb-true, eq-eqb}
 use Rattle.refusal.specs.Outcome.{Outcome, answer, refused}
-use Rattle.refusal.proofs.Cases.{check-answer, withAnswer-answer, withAnswer-refused, and-true}
+use Rattle.laws.proofs.Tests.{and-true}
+use Rattle.refusal.proofs.OutcomeLaws.{check-answer, withAnswer-answer, withAnswer-refused}
 use Rattle.page.specs.Bytes.{bytesOf, numbersAt, bytesOfAll}
-use Rattle.page.proofs.SetsLaws.{sets-append}
+use Rattle.laws.proofs.SetsLaws.{sets-append}
 use Rattle.page.proofs.BytesLaws.{numberAt-append-left, numbersAt-same, numberAt-bytesOf, numbersAt-bytesOfAll, length-bytesOf, length-bytesOfAll}
 use Rattle.overflow.specs.Totals.{maxSize}
 use Rattle.overflow.specs.Cells.{Cell, hashSize, cellHeader, cellBytes, encodeCell, encodeCellInto, cellSize, cellCount, cellOf, decodeCell, CellCounts, countsOf, cellCounts, DecodeEffect, decodeCellInto}

@@ -9,7 +9,7 @@ use lib.ListN.{length, take, drop}
 use lib.Seq.{sets}
 use borrow.Author.Tests.{le-leb, lt-leb, lt-ltb, le-ltb, eq-eqb, ne-eqb}
 use Rattle.refusal.specs.Outcome.{answer, refused}
-use Rattle.page.specs.PageSize.{PageSize}
+use Rattle.page.specs.PageSize.{IsPageSize}
 use Rattle.page.proofs.PageSizeLaws.{page-least}
 use Rattle.overflow.specs.Totals.{maxSize, cellNumbers, body, totalPages}
 use Rattle.overflow.specs.Layout.{numbersPerPage, numbersBefore, numbersOn, bytesBefore, bytesOn}
@@ -24,7 +24,7 @@ use Rattle.overflow.proofs.ValuePagesLaws.{length-valuePage}
 past-cell : (total cell : ℕ) → cell ≡ min total cellNumbers → total - cell ≡ total - cellNumbers
 past-cell total cell e = omega arith
 
-module _ {s : ℕ} (total i : ℕ) (page : PageSize s) where
+module _ {s : ℕ} (total i : ℕ) (page : IsPageSize s) where
   -- a product with the page's index is far from the limit of the numbers
   pub product-small : (b : ℕ) → b ≤ s → total ≤ maxSize + 4 → i < total → b * i ≤ 65536 * (maxSize + 4)
   product-small b h few inside =
@@ -65,7 +65,7 @@ Numbers s total i from count = (from ≡ min total cellNumbers + numbersBefore s
 abbrev pub Bytes : (s total size i from count : ℕ) → Type 0
 Bytes s total size i from count = (from ≡ bytesBefore s total size i) × (count ≡ bytesOn s total size i)
 
-module _ {s : ℕ} (total i : ℕ) (page : PageSize s) {from count : ℕ} (n : Numbers s total i from count) where
+module _ {s : ℕ} (total i : ℕ) (page : IsPageSize s) {from count : ℕ} (n : Numbers s total i from count) where
   -- they lie within the table
   pub numbers-lent : from + count ≤ total
   numbers-lent = omega (arith, n .0, n .1, numbers-within total page i)
@@ -122,12 +122,12 @@ module _ (s : ℕ) (value numbers : List ℕ) (i : ℕ) (buffer : List ℕ) wher
             rw (le-leb 1 (length value) (omega arith), le-leb (length value) maxSize few, ← t, eq-eqb (length numbers) total whole, lt-ltb i total inside, lt-leb s (length buffer) h)
 
         -- the page
-        written : PageSize s → s ≤ length buffer → stored (answer s) (sets buffer 0 (valuePage s value numbers i)) ≡ chunkInto s value numbers i buffer
+        written : IsPageSize s → s ≤ length buffer → stored (answer s) (sets buffer 0 (valuePage s value numbers i)) ≡ chunkInto s value numbers i buffer
         unfolding chunkInto chunk
         written page h =
             rw (le-leb 1 (length value) (omega arith), le-leb (length value) maxSize few, ← t, eq-eqb (length numbers) total whole, lt-ltb i total inside, le-leb s (length buffer) h, length-valuePage page value numbers (whole ∙ t) i)
 
-        pub chunk-written : PageSize s → s ≤ length buffer → (from count from′ count′ : ℕ) → Numbers s total i from count → Bytes s total (length value) i from′ count′
+        pub chunk-written : IsPageSize s → s ≤ length buffer → (from count from′ count′ : ℕ) → Numbers s total i from count → Bytes s total (length value) i from′ count′
             → (b : List ℕ) → b ≡ sets buffer 0 (encodeValuePage s (take count (drop from numbers)) (take count′ (drop from′ value)))
             → stored (answer s) b ≡ chunkInto s value numbers i buffer
         unfolding valuePage

@@ -7,7 +7,7 @@ use native.Mathlib.Omega.{arith}
 use lib.ListN.{length, getD, take, drop, length-append}
 use lib.Seq.{sets, length-sets, take-add, take-suc, take-length}
 use Rattle.page.specs.Pages.{pageAt}
-use Rattle.page.proofs.SetsLaws.{sets-append}
+use Rattle.laws.proofs.SetsLaws.{sets-append}
 use Rattle.overflow.specs.ValuePages.{valueBytes}
 use Rattle.overflow.specs.Steps.{bytesOfPages}
 

@@ -3,7 +3,7 @@ use Prim.Native.Nat.{ℕ, zero, suc, _+_, _*_, _-_, min, _≤_, _<_}
 use mathlib.Core.Path.{_≡_, refl}
 use native.Mathlib.Nat.{mul-suc, mul-zero, add-zero, add-suc, mul-le-mul-right}
 use native.Mathlib.Omega.{arith}
-use Rattle.page.specs.PageSize.{PageSize}
+use Rattle.page.specs.PageSize.{IsPageSize}
 use Rattle.page.proofs.PageSizeLaws.{page-least, page-words}
 use Rattle.overflow.specs.Totals.{cellNumbers, body, totalPages}
 use Rattle.overflow.specs.Layout.{numbersPerPage, numbersBefore, numbersOn, bytesBefore, bytesOn}
@@ -17,7 +17,7 @@ taken-twice size x y = omega arith
 less-than-all : (size t j r bj bt b nj : ℕ) → suc j ≡ t → 1 * j ≤ nj → bj + b ≡ bt → bt < size + 4 * (t - cellNumbers) + b → 4 * min (t - cellNumbers) nj ≤ bj → r ≤ bj - 4 * min (t - cellNumbers) nj → min size r < size
 less-than-all size t j r bj bt b nj e many pages tight fit mono = omega arith
 
-module _ {s : ℕ} (total : ℕ) (page : PageSize s) where
+module _ {s : ℕ} (total : ℕ) (page : IsPageSize s) where
   -- the numbers before page i in one step
   pub numbersBefore-is : (i : ℕ) → numbersBefore s total i ≡ min (total - cellNumbers) (numbersPerPage s * i)
   unfolding numbersBefore
@@ -113,7 +113,7 @@ module _ {s : ℕ} (total : ℕ) (page : PageSize s) where
 
 -- ---- the pages of a value as it is written
 
-module _ {s : ℕ} (size : ℕ) (page : PageSize s) where
+module _ {s : ℕ} (size : ℕ) (page : IsPageSize s) where
   -- together they hold every number after the cell's
   pub value-numbers-all : numbersBefore s (totalPages s size) (totalPages s size) ≡ totalPages s size - cellNumbers
   value-numbers-all = numbers-all (totalPages s size) page

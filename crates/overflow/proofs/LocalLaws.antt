@@ -6,7 +6,7 @@ use mathlib.Core.List.{List, List·Memᴰ, Memᴰ·append-left}
 use native.Mathlib.Omega.{arith}
 use lib.ListN.{getD}
 use Rattle.page.specs.Pages.{pageCount, pageAt}
-use Rattle.page.proofs.PlacesLaws.{getD-mem}
+use Rattle.laws.proofs.PlacesLaws.{getD-mem}
 use Rattle.overflow.specs.Reading.{Found, withPage, ended, walk}
 use Rattle.overflow.specs.Steps.{PageFits}
 use Rattle.overflow.proofs.WalkLaws.{parse-fits, walk-page, walk-ended, walk-visited}

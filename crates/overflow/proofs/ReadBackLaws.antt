@@ -10,10 +10,10 @@ use lib.Dec.{leb}
 use lib.ListN.{length, getD, take, length-take}
 use lib.Seq.{sets, take-add, take-all, getD-take}
 use Rattle.refusal.specs.Outcome.{answer}
-use Rattle.refusal.proofs.Cases.{cond-cases}
-use Rattle.page.specs.PageSize.{PageSize}
+use Rattle.laws.proofs.Tests.{cond-cases}
+use Rattle.page.specs.PageSize.{IsPageSize}
 use Rattle.page.specs.Pages.{pageAt}
-use Rattle.page.proofs.PlacesLaws.{at-places, part-mem}
+use Rattle.laws.proofs.PlacesLaws.{at-places, part-mem}
 use Rattle.page.proofs.PagesLaws.{pageCount-fits}
 use Rattle.overflow.specs.Totals.{cellNumbers, totalPages}
 use Rattle.overflow.specs.Layout.{numbersBefore, bytesBefore, bytesOn}
@@ -29,7 +29,7 @@ use Rattle.overflow.proofs.CellsLaws.{decode-encoded}
 use Rattle.overflow.proofs.WalkLaws.{parse-fits, walk-page}
 
 -- no page of a value is empty
-pub pages-nonempty : {s : ℕ} → PageSize s → (value numbers : List ℕ) → length numbers ≡ totalPages s (length value)
+pub pages-nonempty : {s : ℕ} → IsPageSize s → (value numbers : List ℕ) → length numbers ≡ totalPages s (length value)
     → (i : ℕ) → i < totalPages s (length value) → 1 ≤ numberCount (valuePage s value numbers i) + byteCount (valuePage s value numbers i)
 pages-nonempty page value numbers whole i h =
     rw (numberCount-valuePage page value numbers whole i, byteCount-valuePage page value numbers whole i) (value-page-nonempty (length value) page i h)
@@ -43,7 +43,7 @@ foundIn s value numbers i =
     let total = totalPages s size in
     record { numbers = take (cellNumbers + numbersBefore s total i) numbers; bytes = take (bytesBefore s total size i) value }
 
-module _ {s : ℕ} (page : PageSize s) {store value numbers : List ℕ} (kept : Kept s store value numbers) where
+module _ {s : ℕ} (page : IsPageSize s) {store value numbers : List ℕ} (kept : Kept s store value numbers) where
   -- how many pages the value has
   abbrev total : ℕ
   total = totalPages s (length value)

@@ -10,9 +10,9 @@ use lib.Dec.{leb}
 use lib.ListN.{length, take}
 use lib.Seq.{sets, length-sets, take-all, getD-take}
 use Rattle.refusal.specs.Outcome.{Outcome, answer, refused}
-use Rattle.refusal.proofs.Cases.{withAnswer-refused}
-use Rattle.page.specs.PageSize.{PageSize}
-use Rattle.page.proofs.SetsLaws.{take-sets}
+use Rattle.refusal.proofs.OutcomeLaws.{withAnswer-refused}
+use Rattle.page.specs.PageSize.{IsPageSize}
+use Rattle.laws.proofs.SetsLaws.{take-sets}
 use Rattle.overflow.specs.Totals.{maxSize, totalPages}
 use Rattle.overflow.specs.Cells.{Cell, cellHeader, cellOf, decodeCell, CellCounts, countsOf, cellCounts}
 use Rattle.overflow.specs.Reading.{Found, Walked, ended, stopped, walk, walkCell, foundBy, tableAfter, admitted, wholeValue, ValueCounts, ReadEffect, readCell, readInto, allNumbers, deleteCell, deleteInto}
@@ -86,7 +86,7 @@ module _ (s : ℕ) (store cell table : List ℕ) {size total : ℕ} (c : Celled 
   total-is = ap (totalPages s) (sym (c .size-is)) ∙ sym t
 
   -- what the walk asks for
-  pub walkable : PageSize s → total ≤ length table → Walkable cell total table
+  pub walkable : IsPageSize s → total ≤ length table → Walkable cell total table
   walkable page room = record { header = omega (arith, c .header); few = omega (arith, total-small size page, c .few, t); room = room }
 
   walk-is : (deleting : Bool) → walkCell s store deleting (cellOf cell) ≡ walkFrom s store deleting total cell

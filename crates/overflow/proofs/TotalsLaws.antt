@@ -7,8 +7,8 @@ use native.Mathlib.Nat.{lt-div-mul-add, div-mul-le-self, mul-le-mul-right, mul-a
 use native.Mathlib.Omega.{arith}
 use borrow.Author.Tests.{leb-true, leb-false}
 use lib.Dec.{leb}
-use Rattle.refusal.proofs.Cases.{cond-cases, or-true, or-false}
-use Rattle.page.specs.PageSize.{PageSize}
+use Rattle.laws.proofs.Tests.{cond-cases, or-true, or-false}
+use Rattle.page.specs.PageSize.{IsPageSize}
 use Rattle.page.proofs.PageSizeLaws.{page-least}
 use Rattle.overflow.specs.Totals.{cellNumbers, body, rawPages, totalPages}
 
@@ -40,7 +40,7 @@ module _ (b r size : ℕ) (large : 8 < b) (past : 15 < r) (short : b * r < size 
   unfolding extra
   extra-tight = rw mul-add (omega (arith, room, div-mul-le-self (size + 4 * (r - 15) - b * r + (b - 3)) (b - 4)))
 
-module _ {s : ℕ} (size : ℕ) (page : PageSize s) where
+module _ {s : ℕ} (size : ℕ) (page : IsPageSize s) where
   -- the raw pages hold the bytes
   pub raw-covers : size ≤ body s * rawPages s size
   unfolding rawPages

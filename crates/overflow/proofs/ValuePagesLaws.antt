@@ -6,11 +6,11 @@ use mathlib.Core.Path.{_≡_, ap, sym, _∙_, subst}
 use mathlib.Core.List.{List, _++_, List·Memᴰ, Memᴰ·append-left, Memᴰ·append-right}
 use lib.ListN.{length, getD, take, drop, replicate, length-append, length-replicate, length-drop, take-append-drop}
 use lib.Seq.{sets, getD-append-add, drop-append-add, drop-append-seam, take-append-seam, drop-drop, take-add, take-all, take-length, length-take-le}
-use Rattle.page.specs.PageSize.{PageSize}
+use Rattle.page.specs.PageSize.{IsPageSize}
 use Rattle.page.specs.Bytes.{bytesOf, numbersAt, bytesOfAll}
 use Rattle.page.proofs.PageSizeLaws.{page-least}
-use Rattle.page.proofs.PlacesLaws.{part-mem}
-use Rattle.page.proofs.SetsLaws.{sets-append}
+use Rattle.laws.proofs.PlacesLaws.{part-mem}
+use Rattle.laws.proofs.SetsLaws.{sets-append}
 use Rattle.page.proofs.BytesLaws.{numberAt-append-left, numberAt-append-right, numbersAt-same, numberAt-bytesOf, numbersAt-bytesOfAll, length-bytesOf, length-bytesOfAll}
 use Rattle.overflow.specs.Totals.{cellNumbers, body, totalPages}
 use Rattle.overflow.specs.Layout.{numbersBefore, numbersOn, bytesBefore, bytesOn}
@@ -46,7 +46,7 @@ module _ (s : ℕ) (ns bs : List ℕ) where
   parts : List ℕ
   parts = bytesOfAll 4 ns ++ (bs ++ zeros)
 
-  module _ (page : PageSize s) (fits : 4 + 4 * length ns + length bs ≤ s) where
+  module _ (page : IsPageSize s) (fits : 4 + 4 * length ns + length bs ≤ s) where
     -- a page has s bytes
     pub length-encoded : length (encodeValuePage s ns bs) ≡ s
     unfolding encodeValuePage zeros parts
@@ -106,7 +106,7 @@ pageBytes s value i =
     let total = totalPages s size in
     take (bytesOn s total size i) (drop (bytesBefore s total size i) value)
 
-module _ {s : ℕ} (page : PageSize s) (value numbers : List ℕ) (whole : length numbers ≡ totalPages s (length value)) (i : ℕ) where
+module _ {s : ℕ} (page : IsPageSize s) (value numbers : List ℕ) (whole : length numbers ≡ totalPages s (length value)) (i : ℕ) where
   -- they are as many as the layout says, and fit the page
   pub length-pageNumbers : length (pageNumbers s value numbers i) ≡ numbersOn s (totalPages s (length value)) i
   length-pageNumbers =
@@ -153,7 +153,7 @@ module _ {s : ℕ} (page : PageSize s) (value numbers : List ℕ) (whole : lengt
 -- ---- the pages joined
 
 -- what stands on the first pages grows by what stands on the next
-module _ {s : ℕ} (total : ℕ) (page : PageSize s) (k : ℕ) where
+module _ {s : ℕ} (total : ℕ) (page : IsPageSize s) (k : ℕ) where
   pub numbers-joined : (ns : List ℕ) → take (numbersBefore s total (suc k)) ns ≡ take (numbersBefore s total k) ns ++ take (numbersOn s total k) (drop (numbersBefore s total k) ns)
   numbers-joined ns = rw (numbersBefore-suc total page k) (take-add (numbersBefore s total k) (numbersOn s total k) ns)
 
@@ -162,7 +162,7 @@ module _ {s : ℕ} (total : ℕ) (page : PageSize s) (k : ℕ) where
   bytes-joined size bs = rw (bytesBefore-suc total page size k) (take-add (bytesBefore s total size k) (bytesOn s total size k) bs)
 
 -- the same of a value's pages
-module _ {s : ℕ} (page : PageSize s) (value numbers : List ℕ) where
+module _ {s : ℕ} (page : IsPageSize s) (value numbers : List ℕ) where
   pub value-numbers-joined : (k : ℕ)
       → take (numbersBefore s (totalPages s (length value)) (suc k)) (drop cellNumbers numbers)
       ≡ take (numbersBefore s (totalPages s (length value)) k) (drop cellNumbers numbers) ++ pageNumbers s value numbers k

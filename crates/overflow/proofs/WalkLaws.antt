@@ -11,13 +11,13 @@ use lib.Dec.{leb, ltb}
 use lib.ListN.{length, getD, take, drop, length-append, length-take, length-drop, List·getD-append}
 use lib.Seq.{sets, sets-eq, length-take-le, take-all, take-append-le, take-append-add, getD-take, drop-cons}
 use Rattle.refusal.specs.Outcome.{Outcome, answer, refused}
-use Rattle.refusal.proofs.Cases.{check-answer, withAnswer-answer, withAnswer-refused}
-use Rattle.page.specs.PageSize.{PageSize}
+use Rattle.refusal.proofs.OutcomeLaws.{check-answer, withAnswer-answer, withAnswer-refused}
+use Rattle.page.specs.PageSize.{IsPageSize}
 use Rattle.page.specs.Pages.{pageCount, pageAt}
 use Rattle.page.proofs.BytesLaws.{length-numbersAt}
 use Rattle.page.proofs.PageSizeLaws.{page-least}
 use Rattle.page.proofs.PagesLaws.{page-within, length-pageAt}
-use Rattle.page.proofs.SetsLaws.{sets-append}
+use Rattle.laws.proofs.SetsLaws.{sets-append}
 use Rattle.overflow.specs.Totals.{body}
 use Rattle.overflow.specs.ValuePages.{numberCount, byteCount, valueNumbers, valueBytes}
 use Rattle.overflow.specs.Reading.{parsePage, Found, withPage, Walked, ended, stopped, onward, walk}
@@ -59,7 +59,7 @@ getD-queued t xs n i fits h k =
 
 module _ (s : ℕ) (store : List ℕ) where
   -- a page of the store has s bytes
-  pub page-long : {p : ℕ} {b : List ℕ} → PageSize s → b ≡ pageAt s store p → p < pageCount s store → length b ≡ s
+  pub page-long : {p : ℕ} {b : List ℕ} → IsPageSize s → b ≡ pageAt s store p → p < pageCount s store → length b ≡ s
   page-long {p} size e h = ap length e ∙ length-pageAt s store p (page-within s store p (omega (arith, page-least size)) h)
 
   -- a page that the walk accepts
@@ -85,11 +85,11 @@ module _ (s : ℕ) (store : List ℕ) where
       let same : _≡_ {A = Parts} (record { numbers = numberCount (w .0); bytes = byteCount (w .0) }) (record { numbers = n; bytes = m }) = cc in
       (x .0, sym (ap (λ (q : Parts). q .numbers) same) ∙ ap numberCount (x .1), sym (ap (λ (q : Parts). q .bytes) same) ∙ ap byteCount (x .1))
 
-  pub parts-few : (i p n m : ℕ) → PageSize s → answer (record { numbers = n; bytes = m }) ≡ pageParts s store i p → (n ≤ 65536) × (m ≤ 65536)
+  pub parts-few : (i p n m : ℕ) → IsPageSize s → answer (record { numbers = n; bytes = m }) ≡ pageParts s store i p → (n ≤ 65536) × (m ≤ 65536)
   parts-few i p n m size e = let f = parts-found i p n m e in omega (arith, f .0 .fits, size .limit, f .1, f .2)
 
   -- the numbers of such a page lie on it
-  pub parts-room : (i p n m : ℕ) {b : List ℕ} → PageSize s → b ≡ pageAt s store p → answer (record { numbers = n; bytes = m }) ≡ pageParts s store i p → 4 + 4 * n ≤ length b
+  pub parts-room : (i p n m : ℕ) {b : List ℕ} → IsPageSize s → b ≡ pageAt s store p → answer (record { numbers = n; bytes = m }) ≡ pageParts s store i p → 4 + 4 * n ≤ length b
   parts-room i p n m size b e =
       let f = parts-found i p n m e in
       let long = page-long {p = p} size b (f .0 .inside) in
@@ -119,7 +119,7 @@ module _ (s : ℕ) (store : List ℕ) where
           rw (lt-ltb p (pageCount s store) h, le-leb _ (body s) few, numbers, values, bytes)
 
   -- the value bytes of such a page are as many as it says
-  pub length-valueBytes : (p : ℕ) → PageSize s → PageFits s store p → length (valueBytes (pageAt s store p)) ≡ byteCount (pageAt s store p)
+  pub length-valueBytes : (p : ℕ) → IsPageSize s → PageFits s store p → length (valueBytes (pageAt s store p)) ≡ byteCount (pageAt s store p)
   unfolding valueBytes
   length-valueBytes p size f =
       let b = pageAt s store p in

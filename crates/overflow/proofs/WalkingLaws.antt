@@ -11,10 +11,10 @@ use lib.ListN.{length, getD, take, length-append, length-take}
 use lib.Seq.{sets, length-sets}
 use Rattle.refusal.specs.Outcome.{Outcome, answer, refused}
 use Rattle.page.specs.Bytes.{numbersAt}
-use Rattle.page.specs.PageSize.{PageSize}
+use Rattle.page.specs.PageSize.{IsPageSize}
 use Rattle.page.specs.Pages.{pageAt}
 use Rattle.page.proofs.BytesLaws.{length-numbersAt}
-use Rattle.page.proofs.SetsLaws.{sets-over}
+use Rattle.laws.proofs.SetsLaws.{sets-over}
 use Rattle.overflow.specs.ValuePages.{numberCount, byteCount, valueNumbers}
 use Rattle.overflow.specs.Cells.{cellHeader, cellCount, cellOf}
 use Rattle.overflow.specs.Reading.{Found, withPage, ended, stopped, walk, foundBy}
@@ -141,7 +141,7 @@ module _ {s : ℕ} {store : List ℕ} {deleting : Bool} {cell : List ℕ} {total
               left-stopped (w .holds)
               (rest-suc ∙ walk-unfit s store deleting (total - suc i) i (foundAt s store cell i) inside (rw (← walking-page, ← page) (parts-refused s store i p e)))
 
-          module _ (size : PageSize s) {n m : ℕ} (parts : answer (record { numbers = n; bytes = m }) ≡ pageParts s store i p)
+          module _ (size : IsPageSize s) {n m : ℕ} (parts : answer (record { numbers = n; bytes = m }) ≡ pageParts s store i p)
               {next : List ℕ} (queued : next ≡ sets table known (take (total - known) (numbersAt 4 (pageAt s store p) 4 n))) where
             fits : PageFits s store p
             fits = parts-found s store i p n m parts .0

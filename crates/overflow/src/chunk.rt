@@ -1,7 +1,7 @@
 // Writing a value: one page a call, with the numbers of all its pages lent.
 ghost use mathlib.Core.Path.{_≡_};
 ghost use Prim.Native.Nat.{_+_, _≤_, _<_, min};
-ghost use Rattle.page.specs.PageSize.{PageSize, pageSize};
+ghost use Rattle.page.specs.PageSize.{IsPageSize, pageSize};
 ghost use Rattle.overflow.specs.Stored.{Stored, writtenOutcome};
 ghost use Rattle.overflow.specs.Totals.{maxSize, cellNumbers};
 ghost use Rattle.overflow.specs.Layout.{numbersBefore, numbersOn, bytesBefore, bytesOn};
@@ -30,7 +30,7 @@ pub fn chunk_page(
     index: usize,
     page: &mut [u8],
 ) -> Written
-    requires { ⌜ PageSize size ⌝ }
+    requires { ⌜ IsPageSize size ⌝ }
     ensures { λ r. ⌜ _≡_ {A = Stored} (record { outcome = writtenOutcome r; buffer = now (page .exit) }) (chunkInto size (now (value .entry)) (now (numbers .entry)) index (now (page .entry))) ⌝ }
 {
     let bytes = value.len();
@@ -58,7 +58,7 @@ pub fn chunk_page(
 
 // The numbers on page `index` of `total`: those past the cell's that the pages before it have not.
 fn numbers_on(size: usize, total: usize, index: usize) -> Part
-    requires { ⌜ PageSize size × (total ≤ maxSize + 4) × (index < total) ⌝ }
+    requires { ⌜ IsPageSize size × (total ≤ maxSize + 4) × (index < total) ⌝ }
     ensures from { λ r. ⌜ r .from ≡ min total cellNumbers + numbersBefore size total index ⌝ }
     ensures count { λ r. ⌜ r .count ≡ numbersOn size total index ⌝ }
 {
@@ -75,7 +75,7 @@ fn numbers_on(size: usize, total: usize, index: usize) -> Part
 
 // The bytes on page `index`: as many as its numbers `n` leave room for, behind those on the pages before it.
 fn bytes_on(size: usize, bytes: usize, total: usize, index: usize, n: Part) -> Part
-    requires { ⌜ PageSize size × (total ≤ maxSize + 4) × (index < total) × (n .from ≡ min total cellNumbers + numbersBefore size total index) × (n .count ≡ numbersOn size total index) ⌝ }
+    requires { ⌜ IsPageSize size × (total ≤ maxSize + 4) × (index < total) × (n .from ≡ min total cellNumbers + numbersBefore size total index) × (n .count ≡ numbersOn size total index) ⌝ }
     ensures from { λ r. ⌜ r .from ≡ bytesBefore size total bytes index ⌝ }
     ensures count { λ r. ⌜ r .count ≡ bytesOn size total bytes index ⌝ }
 {

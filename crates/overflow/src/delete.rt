@@ -1,6 +1,6 @@
 // Deleting a value: the numbers of its pages are collected, so that they can be freed. No page is written.
 ghost use mathlib.Core.Path.{_≡_};
-ghost use Rattle.page.specs.PageSize.{PageSize, pageSize};
+ghost use Rattle.page.specs.PageSize.{IsPageSize, pageSize};
 ghost use Rattle.overflow.specs.Reading.{DeleteEffect, deleteInto, deletedOutcome};
 use crate::cell::Decoded;
 use crate::cell::cell_counts;
@@ -26,7 +26,7 @@ pub fn delete(cell: &[u8], store: &[u8], numbers: &mut [u32]) -> Deleted
 
 // The same at any page size.
 pub fn delete_value(size: usize, cell: &[u8], store: &[u8], numbers: &mut [u32]) -> Deleted
-    requires { ⌜ PageSize size ⌝ }
+    requires { ⌜ IsPageSize size ⌝ }
     ensures { λ r. ⌜ _≡_ {A = DeleteEffect} (record { outcome = deletedOutcome r; numbers = now (numbers .exit) }) (deleteInto size (now (cell .entry)) (now (store .entry)) (now (numbers .entry))) ⌝ }
 {
     match cell_counts(cell) {

@@ -3,7 +3,7 @@ ghost use mathlib.Core.Path.{_≡_};
 ghost use Prim.Native.Nat.{_≤_};
 ghost use lib.ListN.{length, take};
 ghost use lib.Seq.{sets};
-ghost use Rattle.page.specs.PageSize.{PageSize, pageSize};
+ghost use Rattle.page.specs.PageSize.{IsPageSize, pageSize};
 ghost use Rattle.overflow.specs.Reading.{ReadEffect, readInto, readOutcome};
 ghost use Rattle.overflow.specs.Steps.{bytesOfPages, PagesFit};
 use crate::cell::Decoded;
@@ -44,7 +44,7 @@ pub fn read_value(
     numbers: &mut [u32],
     value: &mut [u8],
 ) -> ReadValue
-    requires { ⌜ PageSize size ⌝ }
+    requires { ⌜ IsPageSize size ⌝ }
     ensures { λ r. ⌜ _≡_ {A = ReadEffect} (record { outcome = readOutcome r; numbers = now (numbers .exit); value = now (value .exit) }) (readInto size (now (cell .entry)) (now (store .entry)) (now (numbers .entry)) (now (value .entry))) ⌝ }
 {
     match cell_counts(cell) {
@@ -83,7 +83,7 @@ pub fn read_value(
 
 // Copies the value bytes of the pages whose numbers are the first `total` of the table, one page after another.
 fn copy_value(size: usize, store: &[u8], numbers: &[u32], total: usize, value: &mut [u8])
-    requires { ⌜ PageSize size × PagesFit size (now store) total (now numbers) × (total ≤ length (now numbers)) × (length (bytesOfPages size (now store) (take total (now numbers))) ≤ length (now value)) ⌝ }
+    requires { ⌜ IsPageSize size × PagesFit size (now store) total (now numbers) × (total ≤ length (now numbers)) × (length (bytesOfPages size (now store) (take total (now numbers))) ≤ length (now value)) ⌝ }
     ensures { λ _. ⌜ now (value .exit) ≡ sets (now (value .entry)) 0 (bytesOfPages size (now (store .entry)) (take total (now (numbers .entry)))) ⌝ }
 {
     let mut i = 0;

@@ -1,7 +1,7 @@
 // How many pages a value takes.
 ghost use mathlib.Core.Path.{_≡_};
 ghost use Prim.Native.Nat.{_≤_, min};
-ghost use Rattle.page.specs.PageSize.{PageSize, pageSize};
+ghost use Rattle.page.specs.PageSize.{IsPageSize, pageSize};
 ghost use Rattle.overflow.specs.Totals.{maxSize, rawPages, totalPages, pageTotal, totalOutcome};
 use page::PAGE_SIZE;
 use refusal::Refusal;
@@ -43,7 +43,7 @@ pub fn page_total(size: u64) -> Totalled
 
 // How many pages of `page_size` bytes a value takes, with the numbers that the cell has no place for.
 pub fn total_needed_pages(page_size: usize, size: usize) -> usize
-    requires { ⌜ PageSize «page_size» × (size ≤ maxSize) ⌝ }
+    requires { ⌜ IsPageSize «page_size» × (size ≤ maxSize) ⌝ }
     ensures { λ r. ⌜ r ≡ totalPages «page_size» size ⌝ }
 {
     let raw = needed_pages(page_size, size);
@@ -62,7 +62,7 @@ pub fn total_needed_pages(page_size: usize, size: usize) -> usize
 
 // How many pages the bytes alone would take.
 fn needed_pages(page_size: usize, size: usize) -> usize
-    requires { ⌜ PageSize «page_size» × (size ≤ maxSize) ⌝ }
+    requires { ⌜ IsPageSize «page_size» × (size ≤ maxSize) ⌝ }
     ensures { λ r. ⌜ r ≡ rawPages «page_size» size ⌝ }
 {
     let body = page_size - 4;

@@ -5,7 +5,7 @@ ghost use mathlib.Core.Path.{_≡_};
 ghost use Prim.Native.Nat.{_+_, _*_, _≤_};
 ghost use lib.ListN.{length, take, drop};
 ghost use lib.Seq.{sets};
-ghost use Rattle.page.specs.PageSize.{PageSize};
+ghost use Rattle.page.specs.PageSize.{IsPageSize};
 ghost use Rattle.overflow.specs.ValuePages.{numberCount, byteCount, encodeValuePage};
 use page::copy::copy;
 use page::fill::clear;
@@ -44,7 +44,7 @@ pub fn encode_value_page(
     v: Part,
     page: &mut [u8],
 )
-    requires { ⌜ PageSize size × (size ≤ length (now page)) × (4 + 4 * n .count + v .count ≤ size) × (n .from + n .count ≤ length (now numbers)) × (v .from + v .count ≤ length (now value)) ⌝ }
+    requires { ⌜ IsPageSize size × (size ≤ length (now page)) × (4 + 4 * n .count + v .count ≤ size) × (n .from + n .count ≤ length (now numbers)) × (v .from + v .count ≤ length (now value)) ⌝ }
     ensures { λ _. ⌜ now (page .exit) ≡ sets (now (page .entry)) 0 (encodeValuePage size (take (n .count) (drop (n .from) (now (numbers .entry)))) (take (v .count) (drop (v .from) (now (value .entry))))) ⌝ }
 {
     write_u16(page, 0, n.count as u16);

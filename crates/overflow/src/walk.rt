@@ -6,7 +6,7 @@ ghost use Prim.Native.Nat.{_+_, _*_, _-_, _≤_};
 ghost use lib.ListN.{length, take};
 ghost use lib.Seq.{sets};
 ghost use Rattle.page.specs.Bytes.{numbersAt};
-ghost use Rattle.page.specs.PageSize.{PageSize};
+ghost use Rattle.page.specs.PageSize.{IsPageSize};
 ghost use Rattle.page.specs.Pages.{pageCount};
 ghost use Rattle.overflow.specs.Reading.{foundBy};
 ghost use Rattle.overflow.specs.Steps.{pageParts, parsedOutcome, Walkable, walkFrom, walkCounts, walkedOutcome};
@@ -36,7 +36,7 @@ pub(crate) enum Walked {
 
 // How many numbers and value bytes a page has, as page i of a walk: refusals 15 and 16. It serves reading and deleting.
 fn parse_page(store: &[u8], size: usize, count: u32, i: usize, page: u32) -> Parsed
-    requires { ⌜ PageSize size × (count ≡ pageCount size (now store)) ⌝ }
+    requires { ⌜ IsPageSize size × (count ≡ pageCount size (now store)) ⌝ }
     ensures { λ r. ⌜ parsedOutcome r ≡ pageParts size (now (store .entry)) i page ⌝ }
 {
     if count <= page {
@@ -83,7 +83,7 @@ pub(crate) fn walk(
     deleting: bool,
     table: &mut [u32],
 ) -> Walked
-    requires { ⌜ PageSize size × Walkable (now cell) total (now table) ⌝ }
+    requires { ⌜ IsPageSize size × Walkable (now cell) total (now table) ⌝ }
     ensures outcome { λ r. ⌜ walkedOutcome r ≡ walkCounts (walkFrom size (now (store .entry)) deleting total (now (cell .entry))) ⌝ }
     ensures table { λ _. ⌜ now (table .exit) ≡ sets (now (table .entry)) 0 (take total (foundBy (walkFrom size (now (store .entry)) deleting total (now (cell .entry))) .numbers)) ⌝ }
 {

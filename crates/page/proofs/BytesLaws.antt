@@ -9,7 +9,7 @@ use lib.ListN.{length, getD, take, drop, set, length-append, length-drop, List·
 use lib.Seq.{sets, take-suc, length-take-le, getD-take, getD-drop, getD-append-add}
 use lib.Arith.{mod-mul}
 use Rattle.page.specs.Bytes.{numberAt, bytesOf, numbersAt, bytesOfAll}
-use Rattle.page.proofs.SetsLaws.{sets-append, sets-snoc}
+use Rattle.laws.proofs.SetsLaws.{sets-append, sets-snoc}
 
 -- ---- reading
 

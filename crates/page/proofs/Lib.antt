@@ -1,6 +1,4 @@
 -- Laws about the definitions of this crate, for the proofs here and above.
-pub mod PlacesLaws
-pub mod SetsLaws
 pub mod BytesLaws
 pub mod PageSizeLaws
 pub mod PagesLaws

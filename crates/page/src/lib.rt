@@ -6,6 +6,7 @@ pub mod fill;
 pub mod growth;
 pub mod little_endian;
 pub mod number;
+pub mod size;
 pub mod store;
 
 // The bytes of a page in document 01.

@@ -11,7 +11,7 @@ use lib.ListN.{length, take, drop, length-append, length-drop, length-reverse}
 use lib.Seq.{length-take-le}
 use lib.Dec.{leb, eqb}
 use borrow.Author.Tests.{leb-true, leb-false, le-leb, eqb-true, eqb-false, eq-eqb}
-use Rattle.refusal.proofs.Cases.{cond-cases, and-true, or-true}
+use Rattle.laws.proofs.Tests.{cond-cases, and-true, or-true}
 use Rattle.free_list.specs.Shape.{FreeList, isShape, isFragmented}
 use Rattle.free_list.proofs.BelowLaws.{fragmented-is}
 use Rattle.preallocate.specs.Plan.{Plan, pagesFor, pageNumber, pagesAfter, pushedAfter, renumbered, mended, emptied, firstPlan}

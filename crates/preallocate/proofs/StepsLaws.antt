@@ -11,8 +11,8 @@ use lib.ListN.{length, getD}
 use lib.Seq.{sets}
 use lib.Dec.{leb, ltb, eqb}
 use borrow.Author.Tests.{lt-ltb, le-ltb, le-leb, ne-eqb, ltb-true, ltb-false, leb-true, leb-false, eqb-true, eqb-false}
-use Rattle.refusal.proofs.Cases.{and-true}
-use Rattle.page.proofs.SetsLaws.{sets-append}
+use Rattle.laws.proofs.Tests.{and-true}
+use Rattle.laws.proofs.SetsLaws.{sets-append}
 use Rattle.free_list.specs.Shape.{FreeList}
 use Rattle.preallocate.specs.declared.turns.Plan.{Plan as Counts}
 use Rattle.preallocate.specs.Steps.{roomOf, wholeOf, lastOf, swapped, bumped, shortened, emptied, taken, named, stepped, stepNames, planned, newPages, work, Sound, Small, Short, Planned}

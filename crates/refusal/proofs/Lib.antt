@@ -1,2 +1,2 @@
--- Laws about outcomes and tests, for the proofs of the crates above.
-pub mod Cases
+-- Laws about outcomes, for the proofs of the crates above.
+pub mod OutcomeLaws

@@ -10,10 +10,10 @@ use lib.Dec.{eqb}
 use lib.ListN.{length, getD, take, drop, length-append, length-map}
 use lib.Seq.{sets, sets-eq, take-at, drop-at, getD-at, length-take-le}
 use Rattle.refusal.specs.Outcome.{Outcome, answer, refused}
-use Rattle.refusal.proofs.Cases.{unanswer}
-use Rattle.page.specs.PageSize.{PageSize, capacity}
+use Rattle.refusal.proofs.OutcomeLaws.{unanswer}
+use Rattle.page.specs.PageSize.{IsPageSize, capacity}
 use Rattle.page.specs.Pages.{pageAt, Write}
-use Rattle.page.proofs.SetsLaws.{take-sets}
+use Rattle.laws.proofs.SetsLaws.{take-sets}
 use Rattle.free_list.specs.Shape.{FreeList, isShape}
 use Rattle.free_list.specs.Reading.{readInto, ReadEffect}
 use Rattle.preallocate.specs.Plan.{planOf}
@@ -77,7 +77,7 @@ all-encoded s m Q j n f w h =
     let (i, a, b, e) = encoded-mem s m j n w h in
     subst Q (sym e) (f i a b)
 
-module _ (s : ℕ) (size : PageSize s) (v : Save) (freed : List ℕ) (f : Finished) (done : Succeeds s v freed f) where
+module _ (s : ℕ) (size : IsPageSize s) (v : Save) (freed : List ℕ) (f : Finished) (done : Succeeds s v freed f) where
   abbrev l : FreeList
   l = listOf v
 
@@ -127,7 +127,7 @@ answer-parts : (v : Save) (f : Finished) → (finishAnswer v f .count ≡ length
 unfolding finishAnswer
 answer-parts v f = (refl, refl, refl)
 
-module _ (s : ℕ) (size : PageSize s) (v : Save) (freed buffer numbers : List ℕ) where
+module _ (s : ℕ) (size : IsPageSize s) (v : Save) (freed buffer numbers : List ℕ) where
   answered-with : (o : Outcome Finished) → finish s v freed (length buffer) (length numbers) ≡ o → (a : FinishAnswer)
       → finishStored v buffer numbers o .outcome ≡ answer a → Lent s v freed buffer numbers (finishStored v buffer numbers o) a
   answered-with (refused n vs) e a q = let z : _≡_ {A = ℕ} 0 1 = cc in absurd (omega arith)
@@ -197,7 +197,7 @@ read-opens s b pages entries recorded gets h k =
 -- ---- values
 
 -- A value whose pages, as its writer makes them, stand in the store at their numbers is one that its reader gets.
-pub written-value : (s : ℕ) → PageSize s → (store value hash numbers : List ℕ) → Kept s store value numbers → length hash ≡ hashSize
+pub written-value : (s : ℕ) → IsPageSize s → (store value hash numbers : List ℕ) → Kept s store value numbers → length hash ≡ hashSize
     → GetsValue s store (record { cell = cellBytes (cellFor value hash numbers); hash = hash; numbers = numbers; bytes = value })
 unfolding decodeCellInto
 written-value s size store value hash numbers kept long =

@@ -11,7 +11,8 @@ use lib.Dec.{ltb}
 use lib.ListN.{length, getD}
 use lib.Seq.{getD-take}
 use Rattle.refusal.specs.Outcome.{Outcome, answer, refused}
-use Rattle.refusal.proofs.Cases.{unanswer, check-answer, cond-cases}
+use Rattle.laws.proofs.Tests.{cond-cases}
+use Rattle.refusal.proofs.OutcomeLaws.{unanswer, check-answer}
 use Rattle.page.specs.Growth.{maxBump}
 use Rattle.free_list.specs.Shape.{FreeList}
 use Rattle.allocator.specs.OpenSave.{Save, listOf, bumped, stateFits, nextNumber, nextSave, HandedOut, handOut}

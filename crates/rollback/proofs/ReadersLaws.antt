@@ -9,8 +9,8 @@ use lib.Dec.{leb, eqb}
 use lib.ListN.{length, take, replicate, length-replicate}
 use lib.Seq.{sets, take-all}
 use Rattle.refusal.specs.Outcome.{Outcome, answer, refused, check, withAnswer}
-use Rattle.refusal.proofs.Cases.{check-answer, withAnswer-answer}
-use Rattle.page.proofs.SetsLaws.{sets-whole}
+use Rattle.refusal.proofs.OutcomeLaws.{check-answer, withAnswer-answer}
+use Rattle.laws.proofs.SetsLaws.{sets-whole}
 use Rattle.free_list.specs.Shape.{FreeList}
 use Rattle.free_list.specs.Reading.{readList, ListSize, sizeOf, ReadEffect, stored, readInto}
 use Rattle.overflow.specs.Totals.{maxSize, totalPages}

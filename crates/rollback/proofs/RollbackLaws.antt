@@ -7,11 +7,11 @@ use native.Mathlib.Decide.{ℕ-discrete}
 use native.Mathlib.Omega.{arith}
 use lib.ListN.{length, length-append}
 use Rattle.refusal.specs.Outcome.{answer}
-use Rattle.page.specs.PageSize.{PageSize, pageSize}
+use Rattle.page.specs.PageSize.{IsPageSize, pageSize}
 use Rattle.page.specs.Pages.{pageCount, pageAt, Write, writePage, writePages}
 use Rattle.page.proofs.PageSizeLaws.{page-least, page-size}
 use Rattle.page.proofs.PagesLaws.{page-within, pageCount-mono, pageAt-grown, length-written, page-same, page-other}
-use Rattle.page.proofs.PlacesLaws.{getD-mem}
+use Rattle.laws.proofs.PlacesLaws.{getD-mem}
 use Rattle.free_list.specs.Shape.{FreeList}
 use Rattle.free_list.specs.Reading.{readList}
 use Rattle.overflow.specs.Totals.{totalPages}
@@ -35,7 +35,7 @@ different-apart (x ∷ xs) ys d n m k = go (λ t. different-apart xs ys (d .1) n
     go f (inl e) = d .0 (Memᴰ·append-right xs (Memᴰ·cast (sym e) k))
     go f (inr t) = f t
 
-module _ (s : ℕ) (size : PageSize s) (a : State) (first : Good s a) where
+module _ (s : ℕ) (size : IsPageSize s) (a : State) (first : Good s a) where
   abbrev store : List ℕ
   store = a .store
 
@@ -167,7 +167,7 @@ module _ (s : ℕ) (size : PageSize s) (a : State) (first : Good s a) where
     left-reads = (list-survives, value-survives)
 
 -- demand 3, at every page size
-pub rollback : (s : ℕ) → PageSize s → Rollback s
+pub rollback : (s : ℕ) → IsPageSize s → Rollback s
 rollback s size a after first c = left-reads s size a first after (left s size a first after c)
 
 -- demand 3, at document 01's page size

@@ -10,13 +10,13 @@ use lib.Dec.{eqb}
 use lib.ListN.{length, getD, drop, length-drop}
 use lib.Seq.{getD-drop}
 use borrow.Author.Tests.{eqb-true, eq-eqb}
-use Rattle.refusal.proofs.Cases.{and-true}
-use Rattle.page.specs.PageSize.{PageSize, capacity}
+use Rattle.laws.proofs.Tests.{and-true}
+use Rattle.page.specs.PageSize.{IsPageSize, capacity}
 use Rattle.page.specs.Pages.{pageCount, pageAt}
 use Rattle.page.specs.Growth.{maxBump}
 use Rattle.page.proofs.PageSizeLaws.{page-least}
 use Rattle.page.proofs.PagesLaws.{pageCount-mono}
-use Rattle.page.proofs.PlacesLaws.{getD-mem}
+use Rattle.laws.proofs.PlacesLaws.{getD-mem}
 use Rattle.free_list.specs.Shape.{FreeList}
 use Rattle.free_list.specs.ListPages.{prevOf, entriesOf}
 use Rattle.preallocate.specs.Plan.{Plan, planOf}
@@ -77,7 +77,7 @@ mem-encoded s m j (suc n) i a b = go (decLt j i) (mem-encoded s m (suc j) n i)
 
 -- ---- a save that was written whole
 
-module _ (s : ℕ) (size : PageSize s) (a b : State) (first : Good s a) (c : Cut s a (b .store)) (f : Finished) (saved : Saved s a b (run s (c .save) (c .calls)) f) where
+module _ (s : ℕ) (size : IsPageSize s) (a b : State) (first : Good s a) (c : Cut s a (b .store)) (f : Finished) (saved : Saved s a b (run s (c .save) (c .calls)) f) where
   abbrev l : FreeList
   l = a .list
 
@@ -340,18 +340,18 @@ module _ (s : ℕ) (size : PageSize s) (a b : State) (first : Good s a) (c : Cut
 -- ---- seasons
 
 -- a cut leaves the save as good as it was, for its caller to go back to
-back-good : (s : ℕ) → PageSize s → (a : State) (after : List ℕ) → Good s a → Cut s a after → Good s (record { store = after; head = a .head; list = a .list; values = a .values; bump = a .bump })
+back-good : (s : ℕ) → IsPageSize s → (a : State) (after : List ℕ) → Good s a → Cut s a after → Good s (record { store = after; head = a .head; list = a .list; values = a .values; bump = a .bump })
 back-good s size a after first c =
     let r = rollback s size a after first c in
     record { reads = r .0; each = r .1; different = first .different; below = first .below; values-below = first .values-below; values-apart = first .values-apart }
 
 -- After each save, cut or whole, the caller stands as at the first one.
-pub season-good : (s : ℕ) → PageSize s → (a b : State) → Good s a → Season s a b → Good s b
+pub season-good : (s : ℕ) → IsPageSize s → (a b : State) → Good s a → Season s a b → Good s b
 season-good s size a b first (back c e) = subst (Good s) (sym e) (back-good s size a (b .store) first c)
 season-good s size a b first (onward c f saved) = saved-good s size a b first c f saved
 
 -- So in any sequence of saves every one starts well,
-pub seasons-good : (s : ℕ) → PageSize s → (a : State) (bs : List State) → Good s a → Seasons s a bs → (b : State) → List·Memᴰ b bs → Good s b
+pub seasons-good : (s : ℕ) → IsPageSize s → (a : State) (bs : List State) → Good s a → Seasons s a bs → (b : State) → List·Memᴰ b bs → Good s b
 seasons-good s size a [] first steps b m = absurd (List·Memᴰ·not-nil m)
 seasons-good s size a (x ∷ bs) first steps b m =
     let g = season-good s size a x first (steps .0) in
@@ -362,6 +362,6 @@ seasons-good s size a (x ∷ bs) first steps b m =
     go g rest (inr h) = rest h
 
 -- and at every cut of every one of them the save before it reads as it did.
-pub every-cut : (s : ℕ) → PageSize s → (a : State) (bs : List State) → Good s a → Seasons s a bs → (b : State) → List·Memᴰ b bs → (after : List ℕ) → Cut s b after
+pub every-cut : (s : ℕ) → IsPageSize s → (a : State) (bs : List State) → Good s a → Seasons s a bs → (b : State) → List·Memᴰ b bs → (after : List ℕ) → Cut s b after
     → GetsList s after (b .head) (b .list) × ((x : Value) → List·Memᴰ x (b .values) → GetsValue s after x)
 every-cut s size a bs first steps b m after c = rollback s size b after (seasons-good s size a bs first steps b m) c

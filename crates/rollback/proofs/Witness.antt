@@ -10,9 +10,9 @@ use lib.Dec.{ltb, eqb}
 use lib.ListN.{length, getD, replicate}
 use borrow.Author.Tests.{ltb-true, eqb-false, not-true}
 use Rattle.refusal.specs.Outcome.{answer, refused}
-use Rattle.refusal.proofs.Cases.{and-true}
+use Rattle.laws.proofs.Tests.{and-true}
 use Rattle.page.specs.Bytes.{numberAt, bytesOf, numbersAt, bytesOfAll}
-use Rattle.page.specs.PageSize.{PageSize, capacity}
+use Rattle.page.specs.PageSize.{IsPageSize, capacity}
 use Rattle.page.specs.Pages.{pageCount, pageAt, Write, writePage, writePages}
 use Rattle.page.specs.Growth.{roundedUp, grown}
 use Rattle.free_list.specs.Shape.{FreeList, isShape, isFragmented, entriesBelow, entriesOn}
@@ -33,7 +33,7 @@ use Rattle.rollback.proofs.ReadersLaws.{gets-list}
 use Rattle.rollback.proofs.BridgeLaws.{written-value}
 use Rattle.rollback.proofs.RollbackLaws.{rollback}
 
-size : PageSize 16
+size : IsPageSize 16
 unfolding capacity
 size = record { multiple = refl; two-entries = omega arith; limit = omega arith }
 

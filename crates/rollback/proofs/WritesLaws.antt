@@ -10,12 +10,13 @@ use lib.Dec.{leb, eqb}
 use lib.ListN.{length, getD}
 use borrow.Author.Tests.{leb-true, eqb-true}
 use Rattle.refusal.specs.Outcome.{answer}
-use Rattle.refusal.proofs.Cases.{unanswer, check-answer, and-true}
-use Rattle.page.specs.PageSize.{PageSize, capacity}
+use Rattle.laws.proofs.Tests.{and-true}
+use Rattle.refusal.proofs.OutcomeLaws.{unanswer, check-answer}
+use Rattle.page.specs.PageSize.{IsPageSize, capacity}
 use Rattle.page.specs.Pages.{pageCount, pageAt, Write}
 use Rattle.page.specs.Growth.{maxBump}
 use Rattle.page.proofs.PagesLaws.{pageCount-fits}
-use Rattle.page.proofs.PlacesLaws.{getD-mem, at-places}
+use Rattle.laws.proofs.PlacesLaws.{getD-mem, at-places}
 use Rattle.free_list.specs.ListPages.{prevOf, entriesOf}
 use Rattle.free_list.specs.Shape.{FreeList, isShape}
 use Rattle.free_list.proofs.ShapeLaws.{Inside}
@@ -129,7 +130,7 @@ number-encoded : (s : ℕ) (m : FreeList) (i : ℕ) → encodedPage s m i .numbe
 unfolding encodedPage
 number-encoded s m i = refl
 
-module _ (s : ℕ) (size : PageSize s) (store : List ℕ) (l : FreeList) (bump : ℕ) (held : Held s store l) where
+module _ (s : ℕ) (size : IsPageSize s) (store : List ℕ) (l : FreeList) (bump : ℕ) (held : Held s store l) where
   pages-fit : (n : ℕ) → List·Memᴰ n (l .pages) → n < 2 ^ 32
   pages-fit n m = omega (arith, at-places (Inside (pageCount s store)) (l .pages) (held .inside) n m .1, pageCount-fits s store)
 

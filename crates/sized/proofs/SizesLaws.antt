@@ -6,11 +6,11 @@ use mathlib.Core.Path.{_≡_}
 use mathlib.Core.Bool.{Bool, true, false, _&&_}
 use lib.Dec.{leb, eqb}
 use borrow.Author.Tests.{leb-true, eqb-true}
-use Rattle.refusal.proofs.Cases.{and-true}
-use Rattle.page.specs.PageSize.{PageSize, capacity}
+use Rattle.laws.proofs.Tests.{and-true}
+use Rattle.page.specs.PageSize.{IsPageSize, capacity}
 use Rattle.sized.specs.Sizes.{isPageSize}
 
-pub is-page-size : (s : ℕ) → isPageSize s ≡ true → PageSize s
+pub is-page-size : (s : ℕ) → isPageSize s ≡ true → IsPageSize s
 unfolding isPageSize capacity
 is-page-size s e =
     let t = and-true (leb 16 s) (leb s 65536 && eqb (s % 4) 0) e in

@@ -44,7 +44,7 @@ use denote.Triple.Table.{entered, cited}
 use denote.Triple.Walked.{says, needs, Stays, stay-dropped, walkOf, goes-dropped, Walks, ends-at, walked, walk-meets}
 use denote.Exit.{yes}
 use denote.Triple.Clauses.{ensured, lasts}
-use Rattle.page.specs.PageSize.{PageSize}
+use Rattle.page.specs.PageSize.{IsPageSize}
 use Rattle.open_save.specs.CountUp.{countUp, saveOf, countedBy}
 use Rattle.open_save.specs.declared.OpenSave.{OpenSave}
 use Rattle.open_save.specs.declared.Start.{Start}
@@ -122,7 +122,7 @@ module _ {M : Type 1} (𝓤 : URA M) (H : Heap 𝓤) (A : Atoms 𝓤) (W : Given
   abbrev to : ℕ → ℕ → GName → Method 𝓤 H A at-mem run .Ghost
   to α l δ = (((α ∷ [], κs), (fullShare, qs), tt, (lent l δ, (n, (st, (ps, (es, tt))))), (vptr l 0 ∷ [], (vint w64 n ∷ [], (startIs st ∷ [], (sliceIs ps ∷ [], (sliceIs es ∷ [], tt)))))), tt)
 
-  goes : PageSize n → (α l : ℕ) (δ : GName) → ent 𝓤 (⋆ 𝓤 H A ((‵ (flft (α ∷ []) fullShare) ⊛ ‵ (flft κ₁ q₁) ⊛ ‵ (flft κ₂ q₂) ⊛ ‵ ftrue) ∷ ‵ (MutRef (named 0) (α ∷ []) O.the-row .own (lent l δ) (vptr l 0 ∷ [])) ∷ ‵ (owns (usize ∷ S.the-row ∷ O.the-row ∷ pagesRow κs ∷ entriesRow κs ∷ []) x at) ∷ []))
+  goes : IsPageSize n → (α l : ℕ) (δ : GName) → ent 𝓤 (⋆ 𝓤 H A ((‵ (flft (α ∷ []) fullShare) ⊛ ‵ (flft κ₁ q₁) ⊛ ‵ (flft κ₂ q₂) ⊛ ‵ ftrue) ∷ ‵ (MutRef (named 0) (α ∷ []) O.the-row .own (lent l δ) (vptr l 0 ∷ [])) ∷ ‵ (owns (usize ∷ S.the-row ∷ O.the-row ∷ pagesRow κs ∷ entriesRow κs ∷ []) x at) ∷ []))
       (Method 𝓤 H A at-mem run .pre (to α l δ))
   goes ok α l δ =
       qed W ((‵ (flft (α ∷ []) fullShare) ⊛ ‵ (flft κ₁ q₁) ⊛ ‵ (flft κ₂ q₂) ⊛ ‵ ftrue) ∷ ‵ (MutRef (named 0) (α ∷ []) O.the-row .own (lent l δ) (vptr l 0 ∷ [])) ∷ ‵ (owns (usize ∷ S.the-row ∷ O.the-row ∷ pagesRow κs ∷ entriesRow κs ∷ []) x at) ∷ []) ∵ says ! ok $ frame ! $
@@ -151,7 +151,7 @@ module _ {M : Type 1} (𝓤 : URA M) (H : Heap 𝓤) (A : Atoms 𝓤) (W : Given
         owned ! R.the-row (Is R.the-row) (LL.makes R.the-type R′.the-plain 𝓤 H A) both _ both-is $ move ! (1 ∷ 0 ∷ []) $ done !
 
   module _ (C : Calls 𝓤 H) (Λ : Loops 𝓤 H) (fm : FmC 𝓤 H (W .laws) C) (known : Triple 𝓤 (C #method) (Method 𝓤 H A at-mem run)) where
-    walk : PageSize n → n < 2 ^ 64 → Is S.the-row st (startIs st ∷ []) → Is O.the-row h (saveIs h ∷ []) → Is (pagesRow κs) ps (sliceIs ps ∷ []) → Is (entriesRow κs) es (sliceIs es ∷ [])
+    walk : IsPageSize n → n < 2 ^ 64 → Is S.the-row st (startIs st ∷ []) → Is O.the-row h (saveIs h ∷ []) → Is (pagesRow κs) ps (sliceIs ps ∷ []) → Is (entriesRow κs) es (sliceIs es ∷ [])
         → ent 𝓤 (onEntry 𝓤 H A hand-out.signature κs qs x at) (WpFn 𝓤 H C Λ code.function (vint w64 n ∷ startIs st ∷ saveIs h ∷ sliceIs ps ∷ sliceIs es ∷ []) Post)
     walk ok fits is-start is-save is-pages is-entries =
         let typed = LL.lawful O.the-type O′.the-laws 𝓤 H A W .typed in
@@ -190,7 +190,7 @@ module _ {M : Type 1} (𝓤 : URA M) (H : Heap 𝓤) (A : Atoms 𝓤) (W : Given
   hand-out-walks C Λ fm known =
       walked 𝓤 H A hand-out.ended stayed (hand-out.clauses 𝓤 H A mem run) (WpFn 𝓤 H C Λ code.function) (λ κs. (uint-vals w64, (LL.vals S.the-type S′.the-laws, (LL.vals O.the-type O′.the-laws, (slice-vals, (slice-vals, tt))))))
       (λ κs. (uint-tells w64, (LL.tells S.the-type S′.the-laws, (LL.tells O.the-type O′.the-laws, (shr-slice-tells (named 0) (κs .0) u32, (shr-slice-tells (named 1) (κs .1 .0) u32, tt))))))
-      (λ κs qs bounds a g are. needs 𝓤 (PageSize (a .0)) _ (λ ok.
+      (λ κs qs bounds a g are. needs 𝓤 (IsPageSize (a .0)) _ (λ ok.
       walk 𝓤 H A W mem run (κs .0) (κs .1 .0) (qs .0) (qs .1 .0) (a .0) (a .1 .0) (a .1 .1 .0) (a .1 .1 .1 .0) (a .1 .1 .1 .1 .0) C Λ fm known ok (are .0 .1) (are .1 .0) (are .1 .1 .0) (are .1 .1 .1 .0) (are .1 .1 .1 .1 .0)))
 
 hand-out-meets : {M : Type 1} (𝓤 : URA M) (H : Heap 𝓤) (A : Atoms 𝓤) (W : Given 𝓤 H A) (mem : Memory → SProp 𝓤) (run : Routine → Fun 𝓤) (𝓣 : Tables 𝓤 H) → Triple 𝓤 (𝓣 .C #method) (Method 𝓤 H A mem run)

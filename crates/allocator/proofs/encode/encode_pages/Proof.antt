@@ -8,7 +8,7 @@ use native.Mathlib.Omega.{arith}
 use borrow.Rule.Slice.PartMut.{putMid}
 use lib.ListN.{length, take, drop, length-drop}
 use lib.Seq.{sets, length-take-le}
-use Rattle.page.proofs.SetsLaws.{part-written}
+use Rattle.laws.proofs.SetsLaws.{part-written}
 use Rattle.allocator.specs.Finish.{encodedPage, encodedPages, bytesOfPages}
 use Rattle.allocator.specs.Steps.{Listed, tableList}
 use Rattle.allocator.proofs.EncodeLaws.{page-long, pages-more}

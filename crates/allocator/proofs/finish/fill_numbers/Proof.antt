@@ -7,7 +7,7 @@ use native.Mathlib.Omega.{arith}
 use borrow.Rule.Slice.PartMut.{putMid}
 use lib.ListN.{length, take, drop, set, length-set}
 use lib.Seq.{sets}
-use Rattle.page.proofs.SetsLaws.{part-sets}
+use Rattle.laws.proofs.SetsLaws.{part-sets}
 use Rattle.preallocate.specs.Plan.{Plan}
 use Rattle.preallocate.specs.Counts.{counts}
 use Rattle.preallocate.specs.declared.turns.Plan.{Plan as Counts}

@@ -7,7 +7,7 @@ use native.Mathlib.Omega.{arith}
 use lib.ListN.{length, set}
 use lib.Seq.{sets}
 use Rattle.page.specs.Bytes.{numbersAt}
-use Rattle.page.specs.PageSize.{PageSize, capacity}
+use Rattle.page.specs.PageSize.{IsPageSize, capacity}
 use Rattle.page.specs.Pages.{pageAt}
 use Rattle.page.proofs.PageSizeLaws.{page-least}
 use Rattle.page.proofs.PagesLaws.{page-within, length-pageAt}
@@ -26,7 +26,7 @@ record Page (s : ℕ) (store pages₀ entries₀ : List ℕ) (head left₀ : ℕ
       → Filling s store pages₀ entries₀ head left₀ (set pages (left - 1) page) written q (left - 1) (at - n)
 
 module _ {s : ℕ} {store pages₀ entries₀ : List ℕ} {head left₀ : ℕ} {pages entries : List ℕ} {page left at : ℕ} {b : List ℕ}
-    (size : PageSize s) (some : 0 < left) (f : Filling s store pages₀ entries₀ head left₀ pages entries page left at) (bytes : b ≡ pageAt s store page) where
+    (size : IsPageSize s) (some : 0 < left) (f : Filling s store pages₀ entries₀ head left₀ pages entries page left at) (bytes : b ≡ pageAt s store page) where
   this : Filled s store pages₀ entries₀ head left₀ pages entries page left at
   this = filled s store pages₀ entries₀ head left₀ pages entries page left at some f
 

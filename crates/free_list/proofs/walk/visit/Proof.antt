@@ -9,7 +9,7 @@ use lib.ListN.{length}
 use borrow.Author.Tests.{not-true, not-false}
 use Rattle.refusal.specs.Outcome.{refused}
 use Rattle.page.specs.Bytes.{numbersAt}
-use Rattle.page.specs.PageSize.{PageSize, capacity}
+use Rattle.page.specs.PageSize.{IsPageSize, capacity}
 use Rattle.page.specs.Pages.{pageCount, pageAt}
 use Rattle.page.proofs.PageSizeLaws.{page-least}
 use Rattle.page.proofs.PagesLaws.{page-within, length-pageAt}
@@ -26,14 +26,14 @@ use Rattle.free_list.proofs.walk.visit.Tie as tie
 
 -- what is known once the page was found: b are its bytes, of which it has as many as a page
 record Found (s count : ℕ) (store b : List ℕ) (p : ℕ) : Type 0 where
-  page : PageSize s
+  page : IsPageSize s
   pages : count ≡ pageCount s store
   inside : p < pageCount s store
   bytes : b ≡ pageAt s store p
   least : 16 ≤ s
   long : length b ≡ s
 
-found : {s count : ℕ} {store b : List ℕ} {p : ℕ} (page : PageSize s) → count ≡ pageCount s store → p < count → b ≡ pageAt s store p → Found s count store b p
+found : {s count : ℕ} {store b : List ℕ} {p : ℕ} (page : IsPageSize s) → count ≡ pageCount s store → p < count → b ≡ pageAt s store p → Found s count store b p
 found {s} {count} {store} {b} {p} page pages less bytes =
     let inside : p < pageCount s store = omega arith in
     let least = page-least page in

@@ -42,7 +42,7 @@ use denote.Triple.Table.{entered, cited}
 use denote.Triple.Walked.{says, needs, Stays, stay-ref, stay-dropped, walkOf, goes-ref, goes-dropped, Walks, ends-at, walked, walk-meets}
 use denote.Exit.{yes}
 use denote.Triple.Clauses.{ensured, lasts}
-use Rattle.page.specs.PageSize.{PageSize}
+use Rattle.page.specs.PageSize.{IsPageSize}
 use Rattle.open_save.specs.CountUp.{countUp, saveOf, countedBy}
 use Rattle.open_save.specs.declared.OpenSave.{OpenSave}
 use Rattle.open_save.specs.declared.Start.{Start}
@@ -99,7 +99,7 @@ module _ {M : Type 1} (𝓤 : URA M) (H : Heap 𝓤) (A : Atoms 𝓤) (W : Given
   abbrev to : Advance 𝓤 H A at-mem run .Ghost
   to = (((κ₁, (κ₂, tt)), (q₁, (q₂, tt)), tt, (n, (st, (h, (ps, (es, tt))))), (vint w64 n ∷ [], (startIs st ∷ [], (saveIs h ∷ [], (sliceIs ps ∷ [], (sliceIs es ∷ [], tt)))))), tt)
 
-  goes : PageSize n → Is O.the-row h (saveIs h ∷ []) → ent 𝓤 (⋆ 𝓤 H A ((‵ (flft κ₁ q₁) ⊛ ‵ (flft κ₂ q₂) ⊛ ‵ ftrue) ∷ ‵ (owns (usize ∷ S.the-row ∷ pagesRow κs ∷ entriesRow κs ∷ []) (x .1) (at .1)) ∷ [])) (Advance 𝓤 H A at-mem run .pre to)
+  goes : IsPageSize n → Is O.the-row h (saveIs h ∷ []) → ent 𝓤 (⋆ 𝓤 H A ((‵ (flft κ₁ q₁) ⊛ ‵ (flft κ₂ q₂) ⊛ ‵ ftrue) ∷ ‵ (owns (usize ∷ S.the-row ∷ pagesRow κs ∷ entriesRow κs ∷ []) (x .1) (at .1)) ∷ [])) (Advance 𝓤 H A at-mem run .pre to)
   goes ok is =
       qed W ((‵ (flft κ₁ q₁) ⊛ ‵ (flft κ₂ q₂) ⊛ ‵ ftrue) ∷ ‵ (owns (usize ∷ S.the-row ∷ pagesRow κs ∷ entriesRow κs ∷ []) (x .1) (at .1)) ∷ []) ∵ says ! ok $ frame ! $
       fsplit ! $ move ! (1 ∷ []) $ fsplit ! $ owned ! O.the-row (Is O.the-row) (LL.makes O.the-type O′.the-plain 𝓤 H A) h _ is $
@@ -134,7 +134,7 @@ module _ {M : Type 1} (𝓤 : URA M) (H : Heap 𝓤) (A : Atoms 𝓤) (W : Given
         owned ! N.the-row (Is N.the-row) (EL.makes N.the-type N′.the-plain 𝓤 H A) (r .answer) _ answer-is $ move ! (1 ∷ 0 ∷ []) $ done !
 
   module _ (C : Calls 𝓤 H) (Λ : Loops 𝓤 H) (fm : FmC 𝓤 H (W .laws) C) (known : Triple 𝓤 (C #advance) (Advance 𝓤 H A at-mem run)) where
-    walk : PageSize n → n < 2 ^ 64 → Is S.the-row st (startIs st ∷ []) → Is (pagesRow κs) ps (sliceIs ps ∷ []) → Is (entriesRow κs) es (sliceIs es ∷ [])
+    walk : IsPageSize n → n < 2 ^ 64 → Is S.the-row st (startIs st ∷ []) → Is (pagesRow κs) ps (sliceIs ps ∷ []) → Is (entriesRow κs) es (sliceIs es ∷ [])
         → ent 𝓤 (onEntry 𝓤 H A hand-out.signature κs qs x at) (WpFn 𝓤 H C Λ code.function (vptr b o ∷ vint w64 n ∷ startIs st ∷ sliceIs ps ∷ sliceIs es ∷ []) Post)
     walk ok fits is-start is-pages is-entries =
         qed W ((‵ (flft κ q) ⊛ ‵ (flft κ₁ q₁) ⊛ ‵ (flft κ₂ q₂) ⊛ ‵ ftrue) ∷ ‵ (owns (MutRef (named 0) κ O.the-row ∷ usize ∷ S.the-row ∷ pagesRow κs ∷ entriesRow κs ∷ []) x at) ∷ []) ∵
@@ -167,7 +167,7 @@ module _ {M : Type 1} (𝓤 : URA M) (H : Heap 𝓤) (A : Atoms 𝓤) (W : Given
   hand-out-walks C Λ fm known =
       walked 𝓤 H A hand-out.ended stayed (hand-out.clauses 𝓤 H A mem run) (WpFn 𝓤 H C Λ code.function) (λ κs. (ptr-vals, (uint-vals w64, (LL.vals S.the-type S′.the-laws, (slice-vals, (slice-vals, tt))))))
       (λ κs. (mut-tells (named 0) (κs .0) O.the-row, (uint-tells w64, (LL.tells S.the-type S′.the-laws, (shr-slice-tells (named 1) (κs .1 .0) u32, (shr-slice-tells (named 2) (κs .1 .1 .0) u32, tt))))))
-      (λ κs qs bounds a g are. needs 𝓤 (PageSize (a .1 .0)) _ (λ ok.
+      (λ κs qs bounds a g are. needs 𝓤 (IsPageSize (a .1 .0)) _ (λ ok.
       walk 𝓤 H A W mem run (κs .0) (κs .1 .0) (κs .1 .1 .0) (qs .0) (qs .1 .0) (qs .1 .1 .0) (a .0 .ptr .0) (a .0 .ptr .1) (a .0 .name) (a .0 .now) (a .1 .0) (a .1 .1 .0) (a .1 .1 .1 .0) (a .1 .1 .1 .1 .0) C Λ fm known ok (are .1 .0 .1) (are .1 .1 .0) (are .1 .1 .1 .0) (are .1 .1 .1 .1 .0)))
 
 hand-out-meets : {M : Type 1} (𝓤 : URA M) (H : Heap 𝓤) (A : Atoms 𝓤) (W : Given 𝓤 H A) (mem : Memory → SProp 𝓤) (run : Routine → Fun 𝓤) (𝓣 : Tables 𝓤 H) → Triple 𝓤 (𝓣 .C #advance) (Advance 𝓤 H A mem run)

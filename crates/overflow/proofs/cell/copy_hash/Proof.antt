@@ -2,7 +2,7 @@
 -- Assumes nothing.
 use mathlib.Core.Path.{_∙_}
 use native.Mathlib.Omega.{arith}
-use Rattle.page.proofs.SetsLaws.{part-copied}
+use Rattle.laws.proofs.SetsLaws.{part-copied}
 use borrow.Author.Needs.{needs}
 use Rattle.overflow.proofs.cell.copy_hash.Statement.{statement}
 use Rattle.overflow.proofs.cell.copy_hash.Tie as tie

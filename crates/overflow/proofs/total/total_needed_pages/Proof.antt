@@ -5,7 +5,7 @@ use mathlib.Core.Path.{_≡_, subst⁻¹}
 use native.Mathlib.Nat.{mul-le-mul-right, div-le-self}
 use native.Mathlib.Omega.{arith}
 use borrow.Author.Tests.{le-leb, lt-leb}
-use Rattle.page.specs.PageSize.{PageSize}
+use Rattle.page.specs.PageSize.{IsPageSize}
 use Rattle.page.proofs.PageSizeLaws.{page-least}
 use Rattle.overflow.specs.Totals.{body, rawPages, totalPages}
 use Rattle.overflow.proofs.TotalsLaws.{raw-covers, raw-tight}
@@ -20,7 +20,7 @@ record Raw (s size raw : ℕ) : Type 0 where
   tight : body s * raw < size + body s
   few : raw ≤ body s * raw
 
-raw-facts : {s size raw : ℕ} → PageSize s → raw ≡ rawPages s size → Raw s size raw
+raw-facts : {s size raw : ℕ} → IsPageSize s → raw ≡ rawPages s size → Raw s size raw
 raw-facts {s} {size} {raw} page e =
     let one : 1 ≤ body s = omega (arith, page-least page) in
     subst⁻¹ (λ (r : ℕ). Raw s size r) e

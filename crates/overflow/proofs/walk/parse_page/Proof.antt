@@ -5,7 +5,7 @@ use mathlib.Core.Path.{_≡_, _∙_}
 use mathlib.Core.List.{List}
 use native.Mathlib.Omega.{arith}
 use lib.ListN.{length}
-use Rattle.page.specs.PageSize.{PageSize}
+use Rattle.page.specs.PageSize.{IsPageSize}
 use Rattle.page.specs.Pages.{pageCount, pageAt}
 use Rattle.page.proofs.PageSizeLaws.{page-least}
 use Rattle.overflow.proofs.WithinLaws.{number-count-within, byte-count-within}
@@ -15,7 +15,7 @@ use Rattle.overflow.proofs.walk.parse_page.Statement.{statement}
 use Rattle.overflow.proofs.walk.parse_page.Tie as tie
 
 -- a page of the store has a header
-reaches : {s count : ℕ} (store : List ℕ) {b : List ℕ} (p : ℕ) → PageSize s → count ≡ pageCount s store → p < count → b ≡ pageAt s store p → 4 ≤ length b
+reaches : {s count : ℕ} (store : List ℕ) {b : List ℕ} (p : ℕ) → IsPageSize s → count ≡ pageCount s store → p < count → b ≡ pageAt s store p → 4 ≤ length b
 reaches {s} store p size pages less e = omega (arith, page-least size, page-long s store {p = p} size e (omega arith))
 
 returns : tie.Need-returns

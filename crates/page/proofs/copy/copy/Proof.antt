@@ -5,7 +5,7 @@ use mathlib.Core.Path.{_≡_, refl, ap, _∙_}
 use native.Mathlib.Omega.{arith}
 use lib.ListN.{length, length-set, take, drop}
 use lib.Seq.{sets}
-use Rattle.page.proofs.SetsLaws.{copied-more}
+use Rattle.laws.proofs.SetsLaws.{copied-more}
 use Rattle.page.proofs.copy.copy.Statement.{statement}
 use Rattle.page.proofs.copy.copy.Tie as tie
 

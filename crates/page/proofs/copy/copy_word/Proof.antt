@@ -3,7 +3,7 @@
 use mathlib.Core.Path.{refl}
 use native.Mathlib.Omega.{arith}
 use lib.ListN.{length-set}
-use Rattle.page.proofs.SetsLaws.{word-copied}
+use Rattle.laws.proofs.SetsLaws.{word-copied}
 use borrow.Author.Needs.{needs}
 use Rattle.page.proofs.copy.copy_word.Statement.{statement}
 use Rattle.page.proofs.copy.copy_word.Tie as tie

@@ -6,7 +6,7 @@ use native.Mathlib.Nat.{sub-self}
 use native.Mathlib.Omega.{arith}
 use lib.ListN.{length, length-set, replicate}
 use lib.Seq.{sets}
-use Rattle.page.proofs.SetsLaws.{zeros-more}
+use Rattle.laws.proofs.SetsLaws.{zeros-more}
 use Rattle.page.proofs.fill.clear.Statement.{statement}
 use Rattle.page.proofs.fill.clear.Tie as tie
 
