@@ -1,4 +1,5 @@
--- The state of an open save: the shape by division, and what a state that stands has.
+-- The state of an open save: the shape by division, what a state that stands has, and what handing out leaves.
+-- By the tests of the definitions. Assumes nothing.
 use Prim.Native.Nat.{ℕ, suc, _*_, _-_, _/_, _<_, _≤_}
 use native.Mathlib.Nat.{mul-comm, mul-le-mul-left, lt-div-mul-add, div-mul-le-self, le-div-iff-mul-le}
 use native.Mathlib.Omega.{arith}
@@ -9,11 +10,12 @@ use lib.Dec.{leb, ltb, eqb}
 use borrow.Author.Tests.{le-leb, lt-leb, leb-true, ne-eqb, lt-ltb, le-ltb}
 use lib.ListN.{length, getD}
 use Rattle.refusal.specs.Outcome.{answer, refused}
+use Rattle.refusal.specs.Effect.{effect}
 use Rattle.laws.proofs.Tests.{and-true, and-true-right, and-false-right}
 use Rattle.page.specs.PageSize.{capacity}
 use Rattle.page.specs.Growth.{maxBump, grown}
 use Rattle.free_list.specs.Shape.{isShape}
-use Rattle.allocator.specs.OpenSave.{Save, stateFits, bumped, nextNumber, nextRecorded, handOut}
+use Rattle.allocator.specs.OpenSave.{Save, stateFits, bumped, nextNumber, nextRecorded, handOut, counters, countUp}
 
 -- two tests that hold together are equal
 same-test : (a b : Bool) → (a ≡ true → b ≡ true) → (b ≡ true → a ≡ true) → a ≡ b
@@ -76,29 +78,25 @@ stands s v e =
 
 -- ---- handing out
 
--- a save with one number more handed out, and this recorded length
-abbrev pub withLength : Save → ℕ → Save
-withLength v recorded =
-    record { pageTable = v .pageTable; entryTable = v .entryTable; P = v .P; L = v .L; bump = v .bump; recorded = recorded; handed = suc (v .handed) }
-
 module _ (s : ℕ) (v : Save) where
-  pub refused-state : stateFits s v ≡ false → refused 1 [] ≡ handOut s v
-  unfolding handOut
+  pub refused-state : stateFits s v ≡ false → effect (refused 1 []) (counters v) ≡ countUp s v
+  unfolding countUp handOut
   refused-state e = rw e
 
   module _ (state : stateFits s v ≡ true) where
     -- from the list
-    pub handed-listed : v .handed < v .L → answer (record { number = getD (v .entryTable) (v .L - suc (v .handed)) 0; save = withLength v (v .recorded) }) ≡ handOut s v
-    unfolding handOut nextNumber nextRecorded
+    pub handed-listed : v .handed < v .L
+        → effect (answer (getD (v .entryTable) (v .L - suc (v .handed)) 0)) (record { handed = suc (v .handed); recorded = v .recorded }) ≡ countUp s v
+    unfolding countUp handOut nextNumber nextRecorded
     handed-listed h = rw (state, lt-ltb _ _ h)
 
     module _ (past : v .L ≤ v .handed) where
-      pub refused-limit : maxBump ≤ bumped v → refused 7 [] ≡ handOut s v
-      unfolding handOut nextNumber
+      pub refused-limit : maxBump ≤ bumped v → effect (refused 7 []) (counters v) ≡ countUp s v
+      unfolding countUp handOut nextNumber
       refused-limit h = rw (state, le-ltb _ _ past, le-ltb _ _ h)
 
       -- past the bump
       pub handed-past : bumped v < maxBump
-          → answer (record { number = bumped v; save = withLength v (cond (ltb (bumped v) (v .recorded)) (v .recorded) (grown (bumped v))) }) ≡ handOut s v
-      unfolding handOut nextNumber nextRecorded
+          → effect (answer (bumped v)) (record { handed = suc (v .handed); recorded = cond (ltb (bumped v) (v .recorded)) (v .recorded) (grown (bumped v)) }) ≡ countUp s v
+      unfolding countUp handOut nextNumber nextRecorded
       handed-past h = rw (state, le-ltb _ _ past, lt-ltb _ _ h)

@@ -5,41 +5,43 @@ use mathlib.Core.List.{List}
 use lib.Dec.{ltb}
 use Rattle.refusal.specs.Outcome.{Outcome, answer}
 use Rattle.refusal.specs.Refusals.{refusal}
+use Rattle.refusal.specs.Effect.{Effect, effect}
 use Rattle.page.specs.Growth.{grown}
-use Rattle.allocator.specs.OpenSave.{Save, HandedOut}
-use Rattle.allocator.specs.Finish.{FinishAnswer}
-use Rattle.allocator.specs.declared.save.Save.{Save as SaveStruct}
-use Rattle.allocator.specs.declared.allocate.Allocated.{Allocated}
-use Rattle.allocator.specs.declared.allocate.Allocated.the-variants.{Number, Refused as NumberRefused}
-use Rattle.allocator.specs.declared.finish.Finishing.{Finishing}
-use Rattle.allocator.specs.declared.finish.Finishing.the-variants.{Finished, Refused}
+use Rattle.allocator.specs.OpenSave.{Save, Counters}
+use Rattle.allocator.specs.declared.save.Start.{Start}
+use Rattle.allocator.specs.declared.save.OpenSave.{OpenSave}
+use Rattle.allocator.specs.declared.allocate.HandedOut.{HandedOut}
+use Rattle.allocator.specs.declared.allocate.HandedOut.the-variants.{Number, Refused}
+use Rattle.allocator.specs.declared.allocate.Handed.{Handed}
 
--- a save and its two tables
-abbrev pub saveOf : SaveStruct → List ℕ → List ℕ → Save
-saveOf v pages entries =
+-- a save: what it started from, what is counted up, and its two tables
+abbrev pub saveOf : Start → OpenSave → List ℕ → List ℕ → Save
+saveOf start v pages entries =
     record {
       pageTable = pages;
       entryTable = entries;
-      P = v .pages;
-      L = v .entries;
-      bump = v .bump;
+      P = start .pages;
+      L = start .entries;
+      bump = start .bump;
       recorded = v .length;
       handed = v .allocations .0;
     }
 
-abbrev pub allocatedOutcome : List ℕ → List ℕ → Allocated → Outcome HandedOut
-allocatedOutcome pages entries (Number n v) = answer (record { number = n .0; save = saveOf v pages entries })
-allocatedOutcome pages entries (NumberRefused r) = refusal r
+abbrev pub countersOf : OpenSave → Counters
+countersOf v = record { handed = v .allocations .0; recorded = v .length }
 
--- a save with one number more handed out, and another recorded length
-abbrev pub advanced : SaveStruct → ℕ → SaveStruct
-advanced v length = record { bump = v .bump; length = length; pages = v .pages; entries = v .entries; allocations = record { 0 = v .allocations .0 + 1 } }
+abbrev pub handedOutcome : HandedOut → Outcome ℕ
+handedOutcome (Number n) = answer (n .0)
+handedOutcome (Refused r) = refusal r
+
+-- the answer, and what was counted up
+abbrev pub handedEffect : Handed → Effect ℕ Counters
+handedEffect r = effect (handedOutcome (r .answer)) (countersOf (r .«open»))
+
+-- this number is handed out, and this length is recorded
+abbrev pub countedUp : ℕ → OpenSave → ℕ → Effect ℕ Counters
+countedUp number v length = effect (answer number) (record { handed = v .allocations .0 + 1; recorded = length })
 
 -- a recorded length that covers the page
 abbrev pub recordedFor : ℕ → ℕ → ℕ
 recordedFor length page = cond (ltb page length) length (grown page)
-
-abbrev pub finishOutcome : Finishing → Outcome FinishAnswer
-finishOutcome (Finished m) =
-    answer (record { head = m .head .0; bump = m .bump; recorded = m .length; P = m .pages; L = m .entries; count = m .written })
-finishOutcome (Refused r) = refusal r

@@ -1,5 +1,3 @@
--- The open save (`OpenSave`) and the finished save (`Finish`).
+-- The open save (`OpenSave`), and the code's saves and answers as the definitions have them (`Answers`).
 pub mod OpenSave
 pub mod Answers
-pub mod Finish
-pub mod Steps

@@ -5,6 +5,7 @@ use mathlib.Core.List.{List, []}
 use lib.Dec.{leb, ltb}
 use lib.ListN.{length, getD, take}
 use Rattle.refusal.specs.Outcome.{Outcome, answer, check}
+use Rattle.refusal.specs.Effect.{Effect, leaves}
 use Rattle.page.specs.PageSize.{capacity}
 use Rattle.page.specs.Growth.{maxBump, grown}
 use Rattle.free_list.specs.Shape.{FreeList, isShape}
@@ -57,3 +58,17 @@ handOut s v =
     check (stateFits s v) 1 []
     (check (ltb (v .handed) (v .L) || ltb (nextNumber v) maxBump) 7 []
     (answer (record { number = nextNumber v; save = nextSave v })))
+
+-- ---- counting up where the save stands
+
+-- what changes: how many numbers were handed out, and the recorded length
+pub record Counters : Type 0 where
+  pub handed : ℕ
+  pub recorded : ℕ
+
+abbrev pub counters : Save → Counters
+counters v = record { handed = v .handed; recorded = v .recorded }
+
+-- hand out one number, and count up; a refusal leaves all as it was
+unfoldable pub countUp : ℕ → Save → Effect ℕ Counters
+countUp s v = leaves (λ (h : HandedOut). h .number) (λ (h : HandedOut). counters (h .save)) (counters v) (handOut s v)

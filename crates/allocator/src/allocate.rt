@@ -1,73 +1,80 @@
 // Handing out a number.
 ghost use mathlib.Core.Path.{_≡_};
-ghost use Prim.Native.Nat.{_<_, _≤_};
-ghost use Rattle.page.specs.PageSize.{IsPageSize, pageSize};
-ghost use Rattle.page.specs.Growth.{maxBump, grown};
-ghost use Rattle.allocator.specs.OpenSave.{handOut};
-ghost use Rattle.allocator.specs.Answers.{saveOf, allocatedOutcome, advanced as Answers·advanced, recordedFor};
-use crate::save::Save;
+ghost use Prim.Native.Nat.{_+_, _^_, _<_, _≤_};
+ghost use Rattle.refusal.specs.Effect.{before};
+ghost use Rattle.page.specs.PageSize.{pageBytes};
+ghost use Rattle.page.specs.Growth.{maxBump};
+ghost use Rattle.allocator.specs.OpenSave.{countUp};
+ghost use Rattle.allocator.specs.Answers.{saveOf, handedEffect, countedUp as Answers·countedUp, recordedFor};
+use crate::save::MAX_BUMP;
+use crate::save::OpenSave;
+use crate::save::Start;
+use crate::save::grown_for;
 use crate::save::state_fits;
-use page::PAGE_SIZE;
-use page::growth::Grown;
-use page::growth::grow;
 use page::number::Allocations;
 use page::number::PageNumber;
+use page::size::PageSize;
 use refusal::Refusal;
 
-// The number handed out and the save after it, or a refusal.
-pub enum Allocated {
-    Number(PageNumber, Save),
+// The number handed out, or a refusal.
+pub enum HandedOut {
+    Number(PageNumber),
     Refused(Refusal),
 }
 
-// Hands out the next number: the list's entries from the end, and then the numbers past the bump.
-pub fn allocate(save: Save, pages: &[u32], entries: &[u32]) -> Allocated
-    ensures { λ r. ⌜ allocatedOutcome (now (pages .entry)) (now (entries .entry)) r ≡ handOut pageSize (saveOf save (now (pages .entry)) (now (entries .entry))) ⌝ }
-{
-    allocate_from(PAGE_SIZE, save, pages, entries)
+// The answer, and the open save after it.
+pub struct Handed {
+    pub answer: HandedOut,
+    pub open: OpenSave,
 }
 
-// The same at any page size.
-pub fn allocate_from(size: usize, save: Save, pages: &[u32], entries: &[u32]) -> Allocated
-    requires { ⌜ IsPageSize size ⌝ }
-    ensures { λ r. ⌜ allocatedOutcome (now (pages .entry)) (now (entries .entry)) r ≡ handOut size (saveOf save (now (pages .entry)) (now (entries .entry))) ⌝ }
+// Hands out the next number: the list's entries from the end, and then the numbers past the bump.
+pub fn allocate(
+    page_size: PageSize,
+    start: Start,
+    open: OpenSave,
+    pages: &[u32],
+    entries: &[u32],
+) -> Handed
+    ensures { λ r. ⌜ handedEffect r ≡ countUp (pageBytes «page_size») (saveOf start «open» (before pages) (before entries)) ⌝ }
 {
-    if !state_fits(size, save, pages, entries) {
-        return Allocated::Refused(Refusal::State);
+    let page_bytes = page_size.bytes();
+    if !state_fits(page_bytes, start, pages, entries) {
+        return Handed {
+            answer: HandedOut::Refused(Refusal::State),
+            open,
+        };
     }
-    let handed = save.allocations.0;
-    let listed = save.entries;
+    let handed = open.allocations.0;
+    let listed = start.entries;
     if handed < listed {
         let last = listed - 1 - handed;
-        return Allocated::Number(PageNumber(entries[last]), advanced(save, save.length));
+        return counted_up(entries[last], open, open.length);
     }
     let past = handed - listed;
-    if 4294950912 < past {
-        return Allocated::Refused(Refusal::Limit);
+    let room = (MAX_BUMP - start.bump) as usize;
+    if room <= past {
+        return Handed {
+            answer: HandedOut::Refused(Refusal::Limit),
+            open,
+        };
     }
-    let number = past + save.bump as usize;
-    if 4294950912 < number {
-        return Allocated::Refused(Refusal::Limit);
-    }
-    let page = number as u32;
-    Allocated::Number(
-        PageNumber(page),
-        advanced(save, recorded_for(save.length, page)),
-    )
+    let number = start.bump + past as u32;
+    counted_up(number, open, recorded_for(open.length, number))
 }
 
-// The save with one number more handed out, and this recorded length.
-fn advanced(save: Save, length: u32) -> Save
-    requires { ⌜ save .allocations .0 < 18446744073709551615 ⌝ }
-    ensures { λ r. ⌜ r ≡ Answers·advanced save length ⌝ }
+// This number is handed out, and the recorded length is this one.
+fn counted_up(number: u32, open: OpenSave, length: u32) -> Handed
+    requires { ⌜ «open» .allocations .0 + 1 < 2 ^ 64 ⌝ }
+    ensures { λ r. ⌜ handedEffect r ≡ Answers·countedUp number «open» length ⌝ }
 {
-    let handed = save.allocations.0;
-    Save {
-        bump: save.bump,
-        length,
-        pages: save.pages,
-        entries: save.entries,
-        allocations: Allocations(handed + 1),
+    let handed = open.allocations.0;
+    Handed {
+        answer: HandedOut::Number(PageNumber(number)),
+        open: OpenSave {
+            allocations: Allocations(handed + 1),
+            length,
+        },
     }
 }
 
@@ -80,15 +87,4 @@ fn recorded_for(length: u32, page: u32) -> u32
         return length;
     }
     grown_for(page)
-}
-
-// The length that a store is grown to for this page or bump.
-pub(crate) fn grown_for(page: u32) -> u32
-    requires { ⌜ page ≤ maxBump ⌝ }
-    ensures { λ r. ⌜ r ≡ grown page ⌝ }
-{
-    match grow(PageNumber(page)) {
-        Grown::To(grown) => grown.0,
-        Grown::Refused(_) => page,
-    }
 }

@@ -1,6 +1,4 @@
-// The open save: numbers are handed out from the free list and past the bump, and the save is finished with a new free list.
+// The open save: numbers are handed out from the free list and past the bump.
 pub mod allocate;
-mod encode;
-pub mod finish;
+pub mod open_save;
 pub mod save;
-mod tables;

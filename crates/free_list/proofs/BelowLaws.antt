@@ -6,7 +6,7 @@ use native.Mathlib.Omega.{arith}
 use mathlib.Core.Path.{_≡_, refl, ap, sym, _∙_}
 use mathlib.Core.Bool.{Bool, true, false}
 use lib.Dec.{leb, eqb}
-use borrow.Author.Tests.{le-leb, lt-leb, leb-true, eqb-true}
+use borrow.Author.Tests.{le-leb, lt-leb, leb-true, eqb-true, eq-eqb}
 use Rattle.laws.proofs.Tests.{and-true, and-false-right}
 use Rattle.free_list.specs.Shape.{isFragmented, entriesBelow}
 
@@ -16,6 +16,11 @@ unfolding isFragmented
 fragmented-is c P L e =
     let t = and-true (leb 2 P) (eqb L (c * (P - 1))) e in
     (leb-true 2 P (t .0), eqb-true L (c * (P - 1)) (t .1))
+
+-- and a list that has just these is fragmented
+pub is-fragmented : (c P L : ℕ) → 2 ≤ P → L ≡ c * (P - 1) → isFragmented c P L ≡ true
+unfolding isFragmented
+is-fragmented c P L two all = rw (le-leb 2 P two, eq-eqb L (c * (P - 1)) all)
 
 module _ (c P L j : ℕ) where
   pub below-all : P ≤ j → L ≡ entriesBelow c P L j

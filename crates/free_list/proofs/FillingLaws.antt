@@ -7,10 +7,11 @@ use mathlib.Core.Path.{_≡_, refl, ap, sym, _∙_}
 use mathlib.Core.List.{List, [], _∷_, _++_}
 use lib.ListN.{length, set, length-append, length-set}
 use lib.Seq.{sets, length-sets}
-use Rattle.page.specs.PageSize.{capacity}
+use Rattle.page.specs.PageSize.{IsPageSize, capacity}
 use Rattle.page.specs.Pages.{pageCount, pageAt}
 use Rattle.laws.proofs.SetsLaws.{sets-append, sets-comm}
 use Rattle.free_list.specs.ListPages.{prevOf, countOf, entriesOf}
+use Rattle.free_list.specs.Reading.{ListTables, listIn}
 use Rattle.free_list.specs.Steps.{chainFrom, Readable}
 use Rattle.free_list.proofs.ListPagesLaws.{length-entriesOf}
 
@@ -23,6 +24,7 @@ length-chain s store (suc k) p =
 
 -- the tables while they are filled: the list of `left` pages from `page` down, with `at` entries, is still to be written
 pub record Filling (s : ℕ) (store pages₀ entries₀ : List ℕ) (head left₀ : ℕ) (pages entries : List ℕ) (page left at : ℕ) : Type 0 where
+  pub size : IsPageSize s
   pub readable : Readable s store left page
   pub count : length (chainFrom s store left page .entries) ≡ at
   pub pages-fit : left ≤ length pages
@@ -61,6 +63,7 @@ filled s store pages₀ entries₀ head left₀ pages entries page (suc k) at h 
       enough = omega arith;
       next = rw one
           (record {
+            size = f .size;
             readable = f .readable .2;
             count = rest;
             pages-fit = omega (arith, f .pages-fit, length-set pages k page);
@@ -75,6 +78,6 @@ filled s store pages₀ entries₀ head left₀ pages entries page (suc k) at h 
 -- with no page left the list stands in the tables
 pub filling-done : {s : ℕ} {store pages₀ entries₀ : List ℕ} {head left₀ : ℕ} {pages entries : List ℕ} {page left at : ℕ}
     → Filling s store pages₀ entries₀ head left₀ pages entries page left at → left ≡ 0
-    → (pages ≡ sets pages₀ 0 (chainFrom s store left₀ head .pages)) × (entries ≡ sets entries₀ 0 (chainFrom s store left₀ head .entries))
+    → _≡_ {A = ListTables} (record { pages = pages; entries = entries }) (listIn (record { pages = pages₀; entries = entries₀ }) (chainFrom s store left₀ head))
 unfolding chainFrom
-filling-done f e = (rw e at (f .pages-are), rw e at (f .entries-are))
+filling-done f e = rw (← (rw e at (f .pages-are)), ← (rw e at (f .entries-are)))

@@ -19,7 +19,7 @@ use Rattle.page.proofs.BytesLaws.{numbersAt-snoc}
 use Rattle.page.specs.Pages.{pageCount, pageAt}
 use Rattle.free_list.specs.ListPages.{prevOf, countOf, entriesOf}
 use Rattle.free_list.specs.Shape.{FreeList}
-use Rattle.free_list.specs.Reading.{emptyList, onTop, countFits, entriesFit, readFrom, readList, ListSize, sizeOf}
+use Rattle.free_list.specs.Reading.{emptyList, onTop, countFits, entriesFit, readFrom, listFrom, ListSize, sizeOf}
 use Rattle.free_list.specs.Steps.{readSize, sizeFrom, chainFrom, Readable}
 use Rattle.free_list.specs.declared.walk.Walk.{Walk}
 use Rattle.free_list.proofs.ListPagesLaws.{length-entriesOf}
@@ -27,9 +27,10 @@ use Rattle.free_list.proofs.ListPagesLaws.{length-entriesOf}
 -- ---- the tests of a page
 
 -- a count that fits is at most what a page holds
-pub countFits-small : (c above entries n : ℕ) → countFits c above entries n ≡ true → n ≤ c
+pub countFits-small : (loose : Bool) (c above entries n : ℕ) → countFits loose c above entries n ≡ true → n ≤ c
 unfolding countFits
-countFits-small c above entries n e =
+countFits-small true c above entries n e = leb-true n c e
+countFits-small false c above entries n e =
     cond-cases (λ b. b ≡ true → n ≤ c) (eqb above 0) (leb 1 n && leb n c) (eqb n c || (eqb above 1 && (eqb entries 1 && eqb (n + 1) c)))
     (λ _ h. leb-true n c (and-true (leb 1 n) (leb n c) h .1))
     (λ _ h. ⊎-elim (λ k. omega (arith, eqb-true n c k)) (λ k. omega (arith, eqb-true (n + 1) c (last k))) (or-true (eqb n c) _ h))
@@ -64,37 +65,37 @@ abbrev sizes : ℕ → ℕ → ListSize
 sizes pages entries = record { P = pages; L = entries }
 
 -- reading from a page, where more pages are allowed
-pub readFrom-page : (s : ℕ) (store : List ℕ) (allowed above entries p : ℕ) → 1 ≤ allowed → 1 ≤ p
-    → readFrom s store allowed above entries p
+pub readFrom-page : (s : ℕ) (store : List ℕ) (loose : Bool) (allowed above entries p : ℕ) → 1 ≤ allowed → 1 ≤ p
+    → readFrom s store loose allowed above entries p
     ≡ check (ltb p (pageCount s store)) 2 (p ∷ [])
-    (check (countFits (capacity s) above entries (countOf (pageAt s store p))) 3 (p ∷ [])
+    (check (countFits loose (capacity s) above entries (countOf (pageAt s store p))) 3 (p ∷ [])
     (check (entriesFit (pageCount s store) (entriesOf (pageAt s store p))) 4 (p ∷ [])
     (withAnswer (λ l. answer (onTop p (entriesOf (pageAt s store p)) l))
-    (readFrom s store (allowed - 1) (above + 1) (entries + countOf (pageAt s store p)) (prevOf (pageAt s store p))))))
+    (readFrom s store loose (allowed - 1) (above + 1) (entries + countOf (pageAt s store p)) (prevOf (pageAt s store p))))))
 unfolding readFrom
-readFrom-page s store zero above entries p h k = absurd (not-suc-le-zero h)
-readFrom-page s store (suc a) above entries zero h k = absurd (not-suc-le-zero k)
-readFrom-page s store (suc a) above entries (suc q) h k =
+readFrom-page s store loose zero above entries p h k = absurd (not-suc-le-zero h)
+readFrom-page s store loose (suc a) above entries zero h k = absurd (not-suc-le-zero k)
+readFrom-page s store loose (suc a) above entries (suc q) h k =
     let e : suc a - 1 ≡ a = omega arith in
     rw e
 
 -- number 0 ends the list
-pub readFrom-end : (s : ℕ) (store : List ℕ) (allowed above entries : ℕ) → readFrom s store allowed above entries 0 ≡ answer emptyList
+pub readFrom-end : (s : ℕ) (store : List ℕ) (loose : Bool) (allowed above entries : ℕ) → readFrom s store loose allowed above entries 0 ≡ answer emptyList
 unfolding readFrom
-readFrom-end s store zero above entries = refl
-readFrom-end s store (suc a) above entries = refl
+readFrom-end s store loose zero above entries = refl
+readFrom-end s store loose (suc a) above entries = refl
 
-pub size-end : (s : ℕ) (store : List ℕ) (w : Walk) → w .page ≡ 0 → answer (sizes (w .pages) (w .entries)) ≡ sizeFrom s store w
+pub size-end : (s : ℕ) (store : List ℕ) (loose : Bool) (w : Walk) → w .page ≡ 0 → answer (sizes (w .pages) (w .entries)) ≡ sizeFrom s store loose w
 unfolding sizeFrom
-size-end s store w e = rw (e, readFrom-end s store (w .allowed) (w .pages) (w .entries), add-zero (w .pages), add-zero (w .entries))
+size-end s store loose w e = rw (e, readFrom-end s store loose (w .allowed) (w .pages) (w .entries), add-zero (w .pages), add-zero (w .entries))
 
 -- with no page allowed any other number is one too many
-pub size-chain : (s : ℕ) (store : List ℕ) (w : Walk) → w .allowed ≡ 0 → (w .page ≡ 0 → ⊥) → refused 5 [] ≡ sizeFrom s store w
+pub size-chain : (s : ℕ) (store : List ℕ) (loose : Bool) (w : Walk) → w .allowed ≡ 0 → (w .page ≡ 0 → ⊥) → refused 5 [] ≡ sizeFrom s store loose w
 unfolding sizeFrom readFrom
-size-chain s store w e ne = rw e (last (w .page) ne)
+size-chain s store loose w e ne = rw e (last (w .page) ne)
   where
     last : (p : ℕ) → (p ≡ 0 → ⊥)
-        → refused 5 [] ≡ withAnswer (λ l. answer (sizes (w .pages + length (l .pages)) (w .entries + length (l .entries)))) (readFrom s store 0 (w .pages) (w .entries) p)
+        → refused 5 [] ≡ withAnswer (λ l. answer (sizes (w .pages + length (l .pages)) (w .entries + length (l .entries)))) (readFrom s store loose 0 (w .pages) (w .entries) p)
     last zero h = absurd (h refl)
     last (suc q) h = refl
 
@@ -109,93 +110,93 @@ passed pages entries n p es e (answer l) =
 passed pages entries n p es e (refused number values) = refl
 
 -- where a walk stands at a page: each refusal of the page is that of the list, and the walk behind the page finds the same list
-module _ (s : ℕ) (store : List ℕ) (w : Walk) (more : 1 ≤ w .allowed) (page : 1 ≤ w .page) where
-  pub size-past : pageCount s store ≤ w .page → refused 2 (w .page ∷ []) ≡ sizeFrom s store w
+module _ (s : ℕ) (store : List ℕ) (loose : Bool) (w : Walk) (more : 1 ≤ w .allowed) (page : 1 ≤ w .page) where
+  pub size-past : pageCount s store ≤ w .page → refused 2 (w .page ∷ []) ≡ sizeFrom s store loose w
   unfolding sizeFrom
-  size-past h = rw (readFrom-page s store (w .allowed) (w .pages) (w .entries) (w .page) more page, le-ltb _ _ h)
+  size-past h = rw (readFrom-page s store loose (w .allowed) (w .pages) (w .entries) (w .page) more page, le-ltb _ _ h)
 
   module _ (inside : w .page < pageCount s store) where
-    pub size-count : countFits (capacity s) (w .pages) (w .entries) (countOf (pageAt s store (w .page))) ≡ false → refused 3 (w .page ∷ []) ≡ sizeFrom s store w
+    pub size-count : countFits loose (capacity s) (w .pages) (w .entries) (countOf (pageAt s store (w .page))) ≡ false → refused 3 (w .page ∷ []) ≡ sizeFrom s store loose w
     unfolding sizeFrom
-    size-count e = rw (readFrom-page s store (w .allowed) (w .pages) (w .entries) (w .page) more page, lt-ltb _ _ inside, e)
+    size-count e = rw (readFrom-page s store loose (w .allowed) (w .pages) (w .entries) (w .page) more page, lt-ltb _ _ inside, e)
 
-    module _ (fits : countFits (capacity s) (w .pages) (w .entries) (countOf (pageAt s store (w .page))) ≡ true) where
-      pub size-entry : entriesFit (pageCount s store) (entriesOf (pageAt s store (w .page))) ≡ false → refused 4 (w .page ∷ []) ≡ sizeFrom s store w
+    module _ (fits : countFits loose (capacity s) (w .pages) (w .entries) (countOf (pageAt s store (w .page))) ≡ true) where
+      pub size-entry : entriesFit (pageCount s store) (entriesOf (pageAt s store (w .page))) ≡ false → refused 4 (w .page ∷ []) ≡ sizeFrom s store loose w
       unfolding sizeFrom
-      size-entry e = rw (readFrom-page s store (w .allowed) (w .pages) (w .entries) (w .page) more page, lt-ltb _ _ inside, fits, e)
+      size-entry e = rw (readFrom-page s store loose (w .allowed) (w .pages) (w .entries) (w .page) more page, lt-ltb _ _ inside, fits, e)
 
       pub size-next : entriesFit (pageCount s store) (entriesOf (pageAt s store (w .page))) ≡ true
-          → sizeFrom s store (record { page = prevOf (pageAt s store (w .page)); allowed = w .allowed - 1; pages = w .pages + 1; entries = w .entries + countOf (pageAt s store (w .page)) })
-          ≡ sizeFrom s store w
+          → sizeFrom s store loose (record { page = prevOf (pageAt s store (w .page)); allowed = w .allowed - 1; pages = w .pages + 1; entries = w .entries + countOf (pageAt s store (w .page)) })
+          ≡ sizeFrom s store loose w
       unfolding sizeFrom
       size-next e =
-          rw (readFrom-page s store (w .allowed) (w .pages) (w .entries) (w .page) more page, lt-ltb _ _ inside, fits, e)
+          rw (readFrom-page s store loose (w .allowed) (w .pages) (w .entries) (w .page) more page, lt-ltb _ _ inside, fits, e)
           (passed (w .pages) (w .entries) (countOf (pageAt s store (w .page))) (w .page) (entriesOf (pageAt s store (w .page))) (length-entriesOf (pageAt s store (w .page)))
-          (readFrom s store (w .allowed - 1) (w .pages + 1) (w .entries + countOf (pageAt s store (w .page))) (prevOf (pageAt s store (w .page)))))
+          (readFrom s store loose (w .allowed - 1) (w .pages + 1) (w .entries + countOf (pageAt s store (w .page))) (prevOf (pageAt s store (w .page)))))
 
 -- ---- a list that was read
 
 -- a page was read: its tests passed, and what lies below was read
-pub record PageRead (s : ℕ) (store : List ℕ) (allowed above entries p : ℕ) (l : FreeList) : Type 0 where
+pub record PageRead (s : ℕ) (store : List ℕ) (loose : Bool) (allowed above entries p : ℕ) (l : FreeList) : Type 0 where
   pub inside : p < pageCount s store
-  pub fits : countFits (capacity s) above entries (countOf (pageAt s store p)) ≡ true
+  pub fits : countFits loose (capacity s) above entries (countOf (pageAt s store p)) ≡ true
   pub entries-fit : entriesFit (pageCount s store) (entriesOf (pageAt s store p)) ≡ true
   pub below : FreeList
-  pub reads : readFrom s store allowed (above + 1) (entries + countOf (pageAt s store p)) (prevOf (pageAt s store p)) ≡ answer below
+  pub reads : readFrom s store loose allowed (above + 1) (entries + countOf (pageAt s store p)) (prevOf (pageAt s store p)) ≡ answer below
   pub whole : onTop p (entriesOf (pageAt s store p)) below ≡ l
 
-pub page-read : (s : ℕ) (store : List ℕ) (allowed above entries q : ℕ) {l : FreeList} → readFrom s store (suc allowed) above entries (suc q) ≡ answer l
-    → PageRead s store allowed above entries (suc q) l
+pub page-read : (s : ℕ) (store : List ℕ) (loose : Bool) (allowed above entries q : ℕ) {l : FreeList} → readFrom s store loose (suc allowed) above entries (suc q) ≡ answer l
+    → PageRead s store loose allowed above entries (suc q) l
 unfolding readFrom
-page-read s store allowed above entries q {l} e =
+page-read s store loose allowed above entries q {l} e =
     let b = pageAt s store (suc q) in
     let c₁ = check-answer (ltb (suc q) (pageCount s store)) _ _ _ e in
-    let c₂ = check-answer (countFits (capacity s) above entries (countOf b)) _ _ _ (c₁ .1) in
+    let c₂ = check-answer (countFits loose (capacity s) above entries (countOf b)) _ _ _ (c₁ .1) in
     let c₃ = check-answer (entriesFit (pageCount s store) (entriesOf b)) _ _ _ (c₂ .1) in
     let c₄ =
-    withAnswer-answer (λ (m : FreeList). answer (onTop (suc q) (entriesOf b) m)) (readFrom s store allowed (above + 1) (entries + countOf b) (prevOf b)) (c₃ .1) in
+    withAnswer-answer (λ (m : FreeList). answer (onTop (suc q) (entriesOf b) m)) (readFrom s store loose allowed (above + 1) (entries + countOf b) (prevOf b)) (c₃ .1) in
     record { inside = ltb-true _ _ (c₁ .0); fits = c₂ .0; entries-fit = c₃ .0; below = c₄ .0; reads = c₄ .1; whole = unanswer (c₄ .2) }
 
 -- with no page allowed only nil is read
-none-allowed : (s : ℕ) (store : List ℕ) (above entries q : ℕ) {l : FreeList} → readFrom s store 0 above entries (suc q) ≡ answer l → ⊥
+pub none-allowed : (s : ℕ) (store : List ℕ) (loose : Bool) (above entries q : ℕ) {l : FreeList} → readFrom s store loose 0 above entries (suc q) ≡ answer l → ⊥
 unfolding readFrom
-none-allowed s store above entries q e = let z : _≡_ {A = ℕ} 0 1 = cc in omega arith
+none-allowed s store loose above entries q e = let z : _≡_ {A = ℕ} 0 1 = cc in omega arith
 
-empty-read : (s : ℕ) (store : List ℕ) (allowed above entries : ℕ) {l : FreeList} → readFrom s store allowed above entries 0 ≡ answer l → emptyList ≡ l
-empty-read s store allowed above entries {l} e = same (sym (readFrom-end s store allowed above entries) ∙ e)
+empty-read : (s : ℕ) (store : List ℕ) (loose : Bool) (allowed above entries : ℕ) {l : FreeList} → readFrom s store loose allowed above entries 0 ≡ answer l → emptyList ≡ l
+empty-read s store loose allowed above entries {l} e = same (sym (readFrom-end s store loose allowed above entries) ∙ e)
   where
     same : {x y : FreeList} → answer x ≡ answer y → x ≡ y
     same e = cc
 
 -- what is to be shown of every list that is read, page by page: of the empty one, and of one page more
-pub read-elim : (s : ℕ) (store : List ℕ) (Q : ℕ → ℕ → ℕ → FreeList → Type 0)
+pub read-elim : (s : ℕ) (store : List ℕ) (loose : Bool) (Q : ℕ → ℕ → ℕ → FreeList → Type 0)
     → ((above entries : ℕ) → Q above entries 0 emptyList)
     → ((above entries p : ℕ) (l : FreeList) → 1 ≤ p → p < pageCount s store
-    → countFits (capacity s) above entries (countOf (pageAt s store p)) ≡ true
+    → countFits loose (capacity s) above entries (countOf (pageAt s store p)) ≡ true
     → entriesFit (pageCount s store) (entriesOf (pageAt s store p)) ≡ true
     → Q (above + 1) (entries + countOf (pageAt s store p)) (prevOf (pageAt s store p)) l
     → Q above entries p (onTop p (entriesOf (pageAt s store p)) l))
-    → (allowed above entries p : ℕ) (l : FreeList) → readFrom s store allowed above entries p ≡ answer l → Q above entries p l
-read-elim s store Q none more zero above entries zero l e = subst (Q above entries 0) (empty-read s store 0 above entries e) (none above entries)
-read-elim s store Q none more zero above entries (suc q) l e = absurd (none-allowed s store above entries q e)
-read-elim s store Q none more (suc allowed) above entries zero l e = subst (Q above entries 0) (empty-read s store (suc allowed) above entries e) (none above entries)
-read-elim s store Q none more (suc allowed) above entries (suc q) l e =
-    let r = page-read s store allowed above entries q e in
+    → (allowed above entries p : ℕ) (l : FreeList) → readFrom s store loose allowed above entries p ≡ answer l → Q above entries p l
+read-elim s store loose Q none more zero above entries zero l e = subst (Q above entries 0) (empty-read s store loose 0 above entries e) (none above entries)
+read-elim s store loose Q none more zero above entries (suc q) l e = absurd (none-allowed s store loose above entries q e)
+read-elim s store loose Q none more (suc allowed) above entries zero l e = subst (Q above entries 0) (empty-read s store loose (suc allowed) above entries e) (none above entries)
+read-elim s store loose Q none more (suc allowed) above entries (suc q) l e =
+    let r = page-read s store loose allowed above entries q e in
     subst (Q above entries (suc q)) (r .whole)
-    (more above entries (suc q) (r .below) (omega arith) (r .inside) (r .fits) (r .entries-fit) (read-elim s store Q none more allowed (above + 1) (entries + countOf (pageAt s store (suc q))) (prevOf (pageAt s store (suc q))) (r .below) (r .reads)))
+    (more above entries (suc q) (r .below) (omega arith) (r .inside) (r .fits) (r .entries-fit) (read-elim s store loose Q none more allowed (above + 1) (entries + countOf (pageAt s store (suc q))) (prevOf (pageAt s store (suc q))) (r .below) (r .reads)))
 
 -- the list is the chain of as many pages, and each of these can be read again
 pub record Chain (s : ℕ) (store : List ℕ) (p : ℕ) (l : FreeList) : Type 0 where
   pub chain : l ≡ chainFrom s store (length (l .pages)) p
   pub readable : Readable s store (length (l .pages)) p
 
-pub read-chain : (s : ℕ) (store : List ℕ) (allowed above entries p : ℕ) (l : FreeList) → readFrom s store allowed above entries p ≡ answer l → Chain s store p l
+pub read-chain : (s : ℕ) (store : List ℕ) (loose : Bool) (allowed above entries p : ℕ) (l : FreeList) → readFrom s store loose allowed above entries p ≡ answer l → Chain s store p l
 unfolding chainFrom
-read-chain s store =
-    read-elim s store (λ above entries p l. Chain s store p l) (λ above entries. record { chain = refl; readable = tt }) more
+read-chain s store loose =
+    read-elim s store loose (λ above entries p l. Chain s store p l) (λ above entries. record { chain = refl; readable = tt }) more
   where
     more : (above entries p : ℕ) (l : FreeList) → 1 ≤ p → p < pageCount s store
-        → countFits (capacity s) above entries (countOf (pageAt s store p)) ≡ true
+        → countFits loose (capacity s) above entries (countOf (pageAt s store p)) ≡ true
         → entriesFit (pageCount s store) (entriesOf (pageAt s store p)) ≡ true
         → Chain s store (prevOf (pageAt s store p)) l
         → Chain s store p (onTop p (entriesOf (pageAt s store p)) l)
@@ -203,13 +204,13 @@ read-chain s store =
         let e : length (l .pages ++ (p ∷ [])) ≡ suc (length (l .pages)) = length-append (l .pages) (p ∷ []) ∙ add-one (length (l .pages)) in
         record {
           chain = rw e (ap (onTop p (entriesOf (pageAt s store p))) (c .chain));
-          readable = rw e (inside, countFits-small (capacity s) above entries (countOf (pageAt s store p)) fits, c .readable);
+          readable = rw e (inside, countFits-small loose (capacity s) above entries (countOf (pageAt s store p)) fits, c .readable);
         }
 
 -- a walk that has just begun stands before the whole list
-pub size-start : (s : ℕ) (store : List ℕ) (head : ℕ) → sizeFrom s store (record { page = head; allowed = pageCount s store; pages = 0; entries = 0 }) ≡ readSize s store head
-unfolding sizeFrom readSize readList
-size-start s store head = none (readFrom s store (pageCount s store) 0 0 head)
+pub size-start : (s : ℕ) (store : List ℕ) (loose : Bool) (head : ℕ) → sizeFrom s store loose (record { page = head; allowed = pageCount s store; pages = 0; entries = 0 }) ≡ readSize s store loose head
+unfolding sizeFrom readSize listFrom
+size-start s store loose head = none (readFrom s store loose (pageCount s store) 0 0 head)
   where
     none : (o : Outcome FreeList) → withAnswer (λ l. answer (sizes (0 + length (l .pages)) (0 + length (l .entries)))) o ≡ withAnswer (λ l. answer (sizeOf l)) o
     none (answer l) = rw (zero-add (length (l .pages)), zero-add (length (l .entries)))

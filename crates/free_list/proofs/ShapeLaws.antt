@@ -4,18 +4,20 @@ use native.Mathlib.Nat.{mul-suc, mul-zero, zero-sub}
 use native.Mathlib.Omega.{arith}
 use mathlib.Core.Path.{_≡_, refl, sym}
 use mathlib.Core.Logic.{_⊎_, inl, inr, ⊎-elim}
-use mathlib.Core.Bool.{true, false, _&&_, _||_}
+use mathlib.Core.Bool.{Bool, true, false, _&&_, _||_}
 use mathlib.Core.List.{List, [], _∷_, _++_, List·Memᴰ, List·Memᴰ·append-cases, List·Memᴰ·cases-cons, List·Memᴰ·eq-of-singleton, List·Memᴰ·not-nil}
 use lib.Dec.{leb, ltb, eqb}
 use lib.ListN.{length, length-append}
 use borrow.Author.Tests.{le-leb, leb-true, ltb-true, eqb-true, eqb-false}
 use Rattle.refusal.specs.Outcome.{answer}
+use Rattle.laws.proofs.ProductLaws.{times-less}
 use Rattle.laws.proofs.Tests.{cond-cases, and-true, or-true, or-true-right}
 use Rattle.page.specs.PageSize.{capacity}
 use Rattle.page.specs.Pages.{pageCount, pageAt}
 use Rattle.free_list.specs.ListPages.{countOf, entriesOf}
 use Rattle.free_list.specs.Shape.{FreeList, isShape}
-use Rattle.free_list.specs.Reading.{countFits, entriesFit, readFrom, readList}
+use Rattle.free_list.specs.StoredList.{Inside}
+use Rattle.free_list.specs.Reading.{countFits, entriesFit, readFrom, listFrom, readList}
 use Rattle.free_list.proofs.ListPagesLaws.{length-entriesOf}
 use Rattle.free_list.proofs.ReadingLaws.{read-elim}
 
@@ -35,7 +37,7 @@ data Fitting (c above entries m : ℕ) : Type 0 where
   isWhole : 1 ≤ above → m ≡ c → Fitting c above entries m
   lacksOne : above ≡ 1 → entries ≡ 1 → m + 1 ≡ c → Fitting c above entries m
 
-fitting : (c above entries m : ℕ) → countFits c above entries m ≡ true → Fitting c above entries m
+fitting : (c above entries m : ℕ) → countFits false c above entries m ≡ true → Fitting c above entries m
 unfolding countFits
 fitting c above entries m e =
     cond-cases (λ b. b ≡ true → Fitting c above entries m) (eqb above 0) (leb 1 m && leb m c) (eqb m c || (eqb above 1 && (eqb entries 1 && eqb (m + 1) c)))
@@ -67,16 +69,16 @@ counts-more c above entries k n m (lacksOne h one e) below =
     let n-whole : n ≡ c * k = below .0 (omega arith) in
     (λ two. absurd (omega arith), λ _. inr (omega arith, one), λ z. absurd (omega arith))
 
-read-counts : (s : ℕ) (store : List ℕ) (allowed above entries p : ℕ) (l : FreeList) → readFrom s store allowed above entries p ≡ answer l
+read-counts : (s : ℕ) (store : List ℕ) (allowed above entries p : ℕ) (l : FreeList) → readFrom s store false allowed above entries p ≡ answer l
     → Counts (capacity s) above entries (length (l .pages)) (length (l .entries))
 read-counts s store =
-    read-elim s store (λ above entries p l. Counts (capacity s) above entries (length (l .pages)) (length (l .entries))) none more
+    read-elim s store false (λ above entries p l. Counts (capacity s) above entries (length (l .pages)) (length (l .entries))) none more
   where
     none : (above entries : ℕ) → Counts (capacity s) above entries 0 0
     none above entries = (λ _. sym (mul-zero (capacity s)), λ _. inl (sym (mul-zero (capacity s))), λ _ _. inl (refl, refl))
 
     more : (above entries p : ℕ) (l : FreeList) → 1 ≤ p → p < pageCount s store
-        → countFits (capacity s) above entries (countOf (pageAt s store p)) ≡ true
+        → countFits false (capacity s) above entries (countOf (pageAt s store p)) ≡ true
         → entriesFit (pageCount s store) (entriesOf (pageAt s store p)) ≡ true
         → Counts (capacity s) (above + 1) (entries + countOf (pageAt s store p)) (length (l .pages)) (length (l .entries))
         → Counts (capacity s) above entries (length (l .pages ++ (p ∷ []))) (length (l .entries ++ entriesOf (pageAt s store p)))
@@ -85,10 +87,6 @@ read-counts s store =
         (counts-more (capacity s) above entries (length (l .pages)) (length (l .entries)) (countOf (pageAt s store p)) (fitting _ _ _ _ fits) below)
 
 -- ---- the numbers
-
--- a number that the store has a page for, and that is not nil
-abbrev pub Inside : ℕ → ℕ → Type 0
-Inside count n = (1 ≤ n) × (n < count)
 
 pub entriesFit-inside : (count : ℕ) (ns : List ℕ) → entriesFit count ns ≡ true → (n : ℕ) → List·Memᴰ n ns → Inside count n
 unfolding entriesFit
@@ -109,10 +107,10 @@ All Q ns = (n : ℕ) → List·Memᴰ n ns → Q n
 all-append : (Q : ℕ → Type 0) (ms ns : List ℕ) → All Q ms → All Q ns → All Q (ms ++ ns)
 all-append Q ms ns f g n m = ⊎-elim (f n) (g n) (List·Memᴰ·append-cases ms m)
 
-read-inside : (s : ℕ) (store : List ℕ) (allowed above entries p : ℕ) (l : FreeList) → readFrom s store allowed above entries p ≡ answer l
+pub read-inside : (s : ℕ) (store : List ℕ) (loose : Bool) (allowed above entries p : ℕ) (l : FreeList) → readFrom s store loose allowed above entries p ≡ answer l
     → All (Inside (pageCount s store)) (l .pages) × All (Inside (pageCount s store)) (l .entries)
-read-inside s store =
-    read-elim s store (λ above entries p l. All (Inside (pageCount s store)) (l .pages) × All (Inside (pageCount s store)) (l .entries))
+read-inside s store loose =
+    read-elim s store loose (λ above entries p l. All (Inside (pageCount s store)) (l .pages) × All (Inside (pageCount s store)) (l .entries))
     (λ above entries. (λ n m. absurd (List·Memᴰ·not-nil m), λ n m. absurd (List·Memᴰ·not-nil m)))
     (λ above entries p l one inside fits entries-fit below. (
       all-append _ (l .pages) (p ∷ []) (below .0) (λ n m. rw (List·Memᴰ·eq-of-singleton m) (one, inside)),
@@ -127,6 +125,37 @@ pub record Accepted (s : ℕ) (store : List ℕ) (l : FreeList) : Type 0 where
   pub pages-inside : (n : ℕ) → List·Memᴰ n (l .pages) → Inside (pageCount s store) n
   pub entries-inside : (n : ℕ) → List·Memᴰ n (l .entries) → Inside (pageCount s store) n
 
+-- the shape in bounds: the entries fit on the pages, on no fewer than one page less, and with no entries there is no page
+pub record Shaped (c P L : ℕ) : Type 0 where
+  pub most : L ≤ c * P
+  pub least : c * P ≤ L + c
+  pub under : c * (P - 1) ≤ L
+  pub none : L ≡ 0 → P ≡ 0
+
+pub shaped : (c P L : ℕ) → isShape c P L ≡ true → Shaped c P L
+unfolding isShape
+shaped c P L e = go (or-true (eqb P 0 && eqb L 0) (leb 1 L && (leb (c * (P - 1)) L && leb L (c * P))) e)
+  where
+    page-more : (p : ℕ) → c * (p - 1) ≤ L → c * p ≤ L + c
+    page-more zero h = omega (arith, mul-zero c)
+    page-more (suc p) h = omega (arith, times-less c (suc p) (omega arith))
+
+    go : (eqb P 0 && eqb L 0 ≡ true) ⊎ (leb 1 L && (leb (c * (P - 1)) L && leb L (c * P)) ≡ true) → Shaped c P L
+    go (inl x) =
+        let t = and-true (eqb P 0) (eqb L 0) x in
+        let p : P ≡ 0 = eqb-true P 0 (t .0) in
+        let n : L ≡ 0 = eqb-true L 0 (t .1) in
+        record { most = omega arith; least = rw (p, mul-zero c) (omega arith); under = rw (p, n, zero-sub 1, mul-zero c) (omega arith); none = λ _. p }
+    go (inr y) =
+        let t = and-true (leb 1 L) (leb (c * (P - 1)) L && leb L (c * P)) y in
+        let u = and-true (leb (c * (P - 1)) L) (leb L (c * P)) (t .1) in
+        record {
+          most = leb-true L (c * P) (u .1);
+          least = page-more P (leb-true (c * (P - 1)) L (u .0));
+          under = leb-true (c * (P - 1)) L (u .0);
+          none = λ z. absurd (omega (arith, leb-true 1 L (t .0)));
+        }
+
 -- some entries, on as few pages as hold them or one more, are the shape
 pub bounds-shape : (c P L : ℕ) → 1 ≤ L → c * P ≤ L + c → L ≤ c * P → isShape c P L ≡ true
 unfolding isShape
@@ -139,17 +168,17 @@ bounds-shape c P L some few most = rw (le-leb 1 L some, le-leb (c * (P - 1)) L (
         rw e (omega (arith, mul-suc c n))
 
 -- the counts of a whole list are those of the shape
-shaped : (c P L : ℕ) → ((P ≡ 0) × (L ≡ 0)) ⊎ ((1 ≤ L) × (c * P ≤ L + c) × (L ≤ c * P)) → isShape c P L ≡ true
+counts-shape : (c P L : ℕ) → ((P ≡ 0) × (L ≡ 0)) ⊎ ((1 ≤ L) × (c * P ≤ L + c) × (L ≤ c * P)) → isShape c P L ≡ true
 unfolding isShape
-shaped c P L (inl e) = rw (e .0, e .1)
-shaped c P L (inr h) = bounds-shape c P L (h .0) (h .1) (h .2)
+counts-shape c P L (inl e) = rw (e .0, e .1)
+counts-shape c P L (inr h) = bounds-shape c P L (h .0) (h .1) (h .2)
 
 pub read-accepted : (s : ℕ) (store : List ℕ) (head : ℕ) (l : FreeList) → readList s store head ≡ answer l → Accepted s store l
-unfolding readList
+unfolding listFrom
 read-accepted s store head l e =
-    let inside = read-inside s store (pageCount s store) 0 0 head l e in
+    let inside = read-inside s store false (pageCount s store) 0 0 head l e in
     record {
-      shape = shaped _ _ _ (read-counts s store (pageCount s store) 0 0 head l e .2 refl refl);
+      shape = counts-shape _ _ _ (read-counts s store (pageCount s store) 0 0 head l e .2 refl refl);
       pages-inside = inside .0;
       entries-inside = inside .1;
     }

@@ -3,7 +3,7 @@ use Prim.Native.Nat.{ℕ, _+_, _*_, _-_}
 use mathlib.Core.Bool.{Bool, _&&_, _||_, cond}
 use mathlib.Core.List.{List}
 use lib.Dec.{leb, eqb}
-use lib.ListN.{length, take, drop}
+use lib.ListN.{length, getD, take, drop}
 
 -- no page and no entry; or some entries, on as few pages as hold them, or one more
 unfoldable pub isShape : ℕ → ℕ → ℕ → Bool
@@ -28,3 +28,11 @@ unfoldable pub entriesOn : ℕ → FreeList → ℕ → List ℕ
 entriesOn c l j =
     let below = entriesBelow c (length (l .pages)) (length (l .entries)) in
     take (below (j + 1) - below j) (drop (below j) (l .entries))
+
+-- the number of a list's head page, 0 if it has none
+unfoldable pub headOf : FreeList → ℕ
+headOf l = getD (l .pages) (length (l .pages) - 1) 0
+
+-- the number of the page under page j, 0 if there is none
+abbrev pub previous : List ℕ → ℕ → ℕ
+previous pages j = cond (eqb j 0) 0 (getD pages (j - 1) 0)

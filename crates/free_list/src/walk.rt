@@ -4,11 +4,10 @@ ghost use mathlib.Core.Bool.{cond, _&&_};
 ghost use lib.Dec.{leb, ltb, eqb};
 ghost use Prim.Native.Nat.{_+_, _*_, _<_, _≤_};
 ghost use lib.ListN.{length};
+ghost use Rattle.refusal.specs.Effect.{before};
 ghost use Rattle.page.specs.Bytes.{numbersAt};
-ghost use Rattle.page.specs.PageSize.{IsPageSize};
-ghost use Rattle.page.specs.Pages.{pageCount};
 ghost use Rattle.free_list.specs.Reading.{countFits, entriesFit};
-ghost use Rattle.free_list.specs.Steps.{sizeFrom, visitedSize, walkedSize, Sound, Marked, Advanced, Onward};
+ghost use Rattle.free_list.specs.Steps.{MayVisit, Visits, MayWalk, Walks};
 use crate::list_page::item;
 use crate::list_page::max_pns_per_page;
 use crate::page_ref::header;
@@ -42,11 +41,14 @@ pub(crate) enum Walked {
     Stopped(Refusal),
 }
 
-// Whether a count of n fits a page under `above` pages with `entries` entries.
-fn count_fits(c: usize, above: usize, entries: usize, n: usize) -> bool
+// Whether a count of n fits a page under `above` pages with `entries` entries; read loosely, every count that a page can hold does.
+fn count_fits(loose: bool, c: usize, above: usize, entries: usize, n: usize) -> bool
     requires { ⌜ n < 65536 ⌝ }
-    ensures { λ r. ⌜ r ≡ countFits c above entries n ⌝ }
+    ensures { λ r. ⌜ r ≡ countFits loose c above entries n ⌝ }
 {
+    if loose {
+        return n <= c;
+    }
     if above == 0 {
         return 1 <= n && n <= c;
     }
@@ -67,7 +69,7 @@ fn unfit(entry: u32, count: u32) -> u32
 // that are not: without a way out in its middle the loop becomes vector code.
 fn entries_fit(page: &[u8], n: usize, count: u32) -> bool
     requires { ⌜ (n < 65536) × (6 + 4 * n ≤ length (now page)) ⌝ }
-    ensures { λ r. ⌜ r ≡ entriesFit count (numbersAt 4 (now (page .entry)) 6 n) ⌝ }
+    ensures { λ r. ⌜ r ≡ entriesFit count (numbersAt 4 (before page) 6 n) ⌝ }
 {
     let mut i = 0;
     let mut bad = 0;
@@ -79,19 +81,18 @@ fn entries_fit(page: &[u8], n: usize, count: u32) -> bool
 }
 
 // Visits the page at which a walk stands.
-fn visit(store: &[u8], size: usize, count: u32, w: Walk) -> Visited
-    requires { ⌜ IsPageSize size × (count ≡ pageCount size (now store)) × (1 ≤ w .page) × (1 ≤ w .allowed) × Sound w ⌝ }
-    ensures size { λ r. ⌜ visitedSize size (now (store .entry)) r ≡ sizeFrom size (now (store .entry)) w ⌝ }
-    ensures advanced { λ r. ⌜ Advanced size (now (store .entry)) w r ⌝ }
+fn visit(page_size: usize, store: &[u8], count: u32, loose: bool, w: Walk) -> Visited
+    requires { ⌜ MayVisit «page_size» (now store) loose count w ⌝ }
+    ensures { λ r. ⌜ Visits «page_size» (before store) loose w r ⌝ }
 {
     let page = w.page;
     if count <= page {
         return Visited::Unfit(Refusal::ListPage(page));
     }
-    let b = page_at(store, size, page);
+    let b = page_at(page_size, store, page);
     let h = header(b);
     let n = h.count as usize;
-    if !count_fits(max_pns_per_page(size), w.pages, w.entries, n) {
+    if !count_fits(loose, max_pns_per_page(page_size), w.pages, w.entries, n) {
         return Visited::Unfit(Refusal::Count(page));
     }
     if !entries_fit(b, n, count) {
@@ -113,19 +114,19 @@ fn is_back(mark: u32, page: u32) -> bool
 }
 
 // Walks down the list: each call visits a page and calls itself with one page fewer allowed. As a call keeps its frame, it
-// nests only so many of them, and hands back where it stands. A walk that comes back to the marked page, all pages on its way full,
-// would go round until no page is allowed.
+// nests only so many of them, and hands back where it stands. A walk that comes back to the marked page, and passed on its way only
+// pages that fit wherever they stand, would go round until no page is allowed.
 pub(crate) fn walk_down(
+    page_size: usize,
     store: &[u8],
-    size: usize,
     count: u32,
+    loose: bool,
     w: Walk,
     mark: u32,
     nested: usize,
 ) -> Walked
-    requires { ⌜ IsPageSize size × (count ≡ pageCount size (now store)) × Sound w × Marked size (now store) mark w ⌝ }
-    ensures size { λ r. ⌜ walkedSize size (now (store .entry)) r ≡ sizeFrom size (now (store .entry)) w ⌝ }
-    ensures onward { λ r. ⌜ Onward size (now (store .entry)) mark w nested r ⌝ }
+    requires { ⌜ MayWalk «page_size» (now store) loose count mark w ⌝ }
+    ensures { λ r. ⌜ Walks «page_size» (before store) loose mark nested w r ⌝ }
 {
     if w.page == 0 {
         return Walked::Ended(ListCounts {
@@ -139,13 +140,13 @@ pub(crate) fn walk_down(
     if nested == 0 {
         return Walked::More(w);
     }
-    match visit(store, size, count, w) {
+    match visit(page_size, store, count, loose, w) {
         Visited::Unfit(r) => Walked::Stopped(r),
         Visited::Next(next) => {
             if is_back(mark, next.page) {
                 return Walked::Stopped(Refusal::Chain);
             }
-            walk_down(store, size, count, next, mark, nested - 1)
+            walk_down(page_size, store, count, loose, next, mark, nested - 1)
         }
     }
 }

@@ -10,9 +10,9 @@ use lib.Seq.{take-all, drop-drop}
 use borrow.Author.Tests.{ne-eqb}
 use Rattle.listing.specs.Lines.{lineLength, endOfLine, linesAfter, sizeOf}
 use Rattle.listing.specs.Text.{sizeText, lineText, header, listing}
-use Rattle.listing.specs.Kept.{noBytes, withBytes, sizeKept}
+use Rattle.listing.specs.Accumulated.{noBytes, withBytes, accumulatedSize}
 use Rattle.listing.proofs.LinesLaws.{lines-ended, lines-more}
-use Rattle.listing.proofs.KeptLaws.{size-kept, withBytes-append}
+use Rattle.listing.proofs.AccumulatedLaws.{size-accumulated, withBytes-append}
 
 -- what is to be printed for an input, where `line` was read already
 unfoldable pub left : ℕ → List ℕ → List ℕ → List ℕ
@@ -27,14 +27,14 @@ pub listing-left : (s : ℕ) (input : List ℕ) → listing s input ≡ header +
 unfolding listing left
 listing-left s input = refl
 
-size-after : (line more : List ℕ) → sizeKept (withBytes (withBytes noBytes line) more) ≡ sizeOf (line ++ more)
-size-after line more = ap sizeKept (sym (withBytes-append noBytes line more)) ∙ size-kept (line ++ more)
+size-after : (line more : List ℕ) → accumulatedSize (withBytes (withBytes noBytes line) more) ≡ sizeOf (line ++ more)
+size-after line more = ap accumulatedSize (sym (withBytes-append noBytes line more)) ∙ size-accumulated (line ++ more)
 
 module _ (s : ℕ) (line bytes more : List ℕ) (from : ℕ) where
   -- a line that ends in the bytes read: its text is put, and the rest is left
   pub left-ended : endOfLine bytes from < length bytes
       → left s line (drop from bytes ++ more)
-      ≡ sizeText s (sizeKept (withBytes (withBytes noBytes line) (part bytes from))) ++ left s [] (drop (endOfLine bytes from + 1) bytes ++ more)
+      ≡ sizeText s (accumulatedSize (withBytes (withBytes noBytes line) (part bytes from))) ++ left s [] (drop (endOfLine bytes from + 1) bytes ++ more)
   unfolding left endOfLine flatMap lineText
   left-ended h =
       let n : ℕ = lineLength (drop from bytes) in
@@ -56,7 +56,7 @@ module _ (s : ℕ) (line bytes more : List ℕ) (from : ℕ) where
       (rw (all, lines-more line (drop from bytes) more none), sym (withBytes-append noBytes line (part bytes from)))
 
 -- at the end of the input: the line that was read, if it has a byte
-pub left-last : (s : ℕ) (line : List ℕ) → left s line [] ≡ cond (eqb (length line) 0) [] (sizeText s (sizeKept (withBytes noBytes line)))
+pub left-last : (s : ℕ) (line : List ℕ) → left s line [] ≡ cond (eqb (length line) 0) [] (sizeText s (accumulatedSize (withBytes noBytes line)))
 unfolding left linesAfter flatMap lineText
 left-last s [] = refl
-left-last s (byte ∷ line) = rw (append-nil, ne-eqb (suc (length line)) 0 (λ e. omega arith), size-kept (byte ∷ line))
+left-last s (byte ∷ line) = rw (append-nil, ne-eqb (suc (length line)) 0 (λ e. omega arith), size-accumulated (byte ∷ line))

@@ -12,7 +12,7 @@ use Rattle.refusal.specs.Outcome.{answer, check}
 use Rattle.laws.proofs.Tests.{cond-cases, and-true}
 use Rattle.page.specs.PageSize.{pageSize}
 use Rattle.page.proofs.PageSizeLaws.{page-size}
-use Rattle.overflow.specs.Totals.{Total, maxSize, rawPages, totalPages, totalOf, pageTotal}
+use Rattle.overflow.specs.Totals.{Total, maxSize, cellNumbers, body, rawPages, totalPages, totalOf, pageTotal}
 use Rattle.overflow.proofs.TotalsLaws.{total-small, total-tight}
 use Rattle.listing.specs.declared.line.Size.{Size}
 use Rattle.listing.specs.declared.line.Size.the-variants.{Bad, Bytes}
@@ -33,9 +33,9 @@ unfolding outcomeText totalOf
 length-answer n h =
     let t : ℕ = totalPages pageSize n in
     let few : t < 10 ^ 10 = omega (arith, total-small n page-size) in
-    let spare : 4092 * t - n < 10 ^ 10 = omega (arith, total-small n page-size, total-tight n page-size) in
+    let spare : body pageSize * t - n < 10 ^ 10 = omega (arith, total-small n page-size, total-tight n page-size) in
     simp length-append
-    (omega (arith, length-number 9 t few, length-number 1 (min t 15) (omega arith), length-number 9 (4092 * t - n) spare))
+    (omega (arith, length-number 9 t few, length-number 1 (min t cellNumbers) (omega arith), length-number 9 (body pageSize * t - n) spare))
 
 length-check : (b : Bool) (t : Total) → length (outcomeText (answer t)) ≤ 25 → length (outcomeText (check b 10 [] (answer t))) ≤ 25
 unfolding outcomeText numberText digitsUpTo
@@ -46,7 +46,7 @@ length-size : (n : ℕ) → n < 10 ^ 9 → length (sizeText pageSize (Bytes n)) 
 unfolding sizeText pageTotal
 length-size n h =
     simp length-append
-    (omega (arith, digits-few n 8 n h, length-check (leb 1 n && leb n maxSize) (totalOf pageSize n (totalPages pageSize n)) (length-answer n h)))
+    (omega (arith, digits-few n 8 n h, length-check (leb 1 n && leb n (maxSize pageSize)) (totalOf pageSize n (totalPages pageSize n)) (length-answer n h)))
 
 -- the text of a line
 pub length-line : (line : List ℕ) → length (lineText pageSize line) ≤ maxText
@@ -66,5 +66,5 @@ length-line line =
 -- `1`, `61381`, `0`, `7a`, the last without its newline
 example : listing pageSize (49 ∷ 10 ∷ 54 ∷ 49 ∷ 51 ∷ 56 ∷ 49 ∷ 10 ∷ 48 ∷ 10 ∷ 55 ∷ 97 ∷ [])
     ≡ header ++ (49 ∷ 32 ∷ 49 ∷ 32 ∷ 49 ∷ 32 ∷ 52 ∷ 48 ∷ 57 ∷ 49 ∷ 10 ∷ 54 ∷ 49 ∷ 51 ∷ 56 ∷ 49 ∷ 32 ∷ 49 ∷ 54 ∷ 32 ∷ 49 ∷ 53 ∷ 32 ∷ 52 ∷ 48 ∷ 57 ∷ 49 ∷ 10 ∷ 48 ∷ 32 ∷ 114 ∷ 101 ∷ 102 ∷ 117 ∷ 115 ∷ 101 ∷ 100 ∷ 32 ∷ 49 ∷ 48 ∷ 10 ∷ 98 ∷ 97 ∷ 100 ∷ 10 ∷ [])
-unfolding isDigit allDigits decimalAfter digitsUpTo rawPages totalPages totalOf pageTotal linesAfter sizeOf numberText outcomeText sizeText lineText listing flatMap
+unfolding maxSize isDigit allDigits decimalAfter digitsUpTo rawPages totalPages totalOf pageTotal linesAfter sizeOf numberText outcomeText sizeText lineText listing flatMap
 example = refl

@@ -1,9 +1,9 @@
-// A line of the input, read part by part: where it ends, and what is kept of it.
+// A line of the input, read part by part: where it ends, and what is accumulated of it.
 ghost use mathlib.Core.Path.{_≡_};
 ghost use lib.Dec.{eqb};
 ghost use Rattle.listing.specs.Decimal.{isDigit};
 ghost use Rattle.listing.specs.Lines.{endOfLine};
-ghost use Rattle.listing.specs.Kept.{noBytes, noSize, withByte, withBytes, sizeKept};
+ghost use Rattle.listing.specs.Accumulated.{noBytes, noSize, withByte, withBytes, accumulatedSize};
 
 // The place of the first newline at or after `from`, or the length; `from` where that is past the end.
 pub fn end_of_line(bytes: &[u8], from: usize) -> usize
@@ -25,7 +25,7 @@ pub enum Size {
     Bytes(u64),
 }
 
-// What is kept of a line. Of up to 9 digits: how many, and the number that they write. Of any other line: 10 and 0.
+// What is accumulated of a line. Of up to 9 digits: how many, and the number that they write. Of any other line: 10 and 0.
 pub struct Line {
     digits: usize,
     value: u64,
@@ -60,7 +60,7 @@ impl Line {
     }
 
     pub fn size(self) -> Size
-        ensures { λ r. ⌜ r ≡ sizeKept self ⌝ }
+        ensures { λ r. ⌜ r ≡ accumulatedSize self ⌝ }
     {
         if self.digits == 0 {
             return Size::Bad;

@@ -3,35 +3,37 @@
 // Each function answers the place behind what it put. What goes beyond the buffer's end is left out.
 ghost use mathlib.Core.Path.{_≡_};
 ghost use Prim.Native.Nat.{_-_, min};
+ghost use Rattle.refusal.specs.Effect.{before, after};
 ghost use Rattle.page.specs.PageSize.{pageSize};
 ghost use Rattle.overflow.specs.Totals.{totalOutcome};
 ghost use Rattle.listing.specs.Decimal.{digitsOf};
-ghost use Rattle.listing.specs.Kept.{sizeKept};
+ghost use Rattle.listing.specs.Accumulated.{accumulatedSize};
 ghost use Rattle.listing.specs.Text.{header, numberText, outcomeText, sizeText};
 ghost use Rattle.listing.specs.Put.{Put};
 use crate::line::Line;
 use crate::line::Size;
 use overflow::total::Totalled;
 use overflow::total::page_total;
+use page::size::PAGE_SIZE;
 
 // The text of a line that was read has at most so many bytes: `maxText` of specs/Text.
 pub const MAX_TEXT: usize = 64;
 
 pub fn put_header(out: &mut [u8], at: usize) -> usize
-    ensures { λ r. ⌜ Put (now (out .entry)) at header (now (out .exit)) r ⌝ }
+    ensures { λ r. ⌜ Put (before out) at header (after out) r ⌝ }
 {
     put(out, at, b"size pages cell spare\n")
 }
 
 // What is printed for a line.
 pub fn put_line(line: Line, out: &mut [u8], at: usize) -> usize
-    ensures { λ r. ⌜ Put (now (out .entry)) at (sizeText pageSize (sizeKept line)) (now (out .exit)) r ⌝ }
+    ensures { λ r. ⌜ Put (before out) at (sizeText pageSize (accumulatedSize line)) (after out) r ⌝ }
 {
     match line.size() {
         Size::Bad => put(out, at, b"bad\n"),
         Size::Bytes(size) => {
             let behind_size = put_digits(size, out, at);
-            let behind_outcome = put_outcome(page_total(size), out, behind_size);
+            let behind_outcome = put_outcome(page_total(PAGE_SIZE, size), out, behind_size);
             put(out, behind_outcome, b"\n")
         }
     }
@@ -39,7 +41,7 @@ pub fn put_line(line: Line, out: &mut [u8], at: usize) -> usize
 
 // What is printed behind a size.
 fn put_outcome(outcome: Totalled, out: &mut [u8], at: usize) -> usize
-    ensures { λ r. ⌜ Put (now (out .entry)) at (outcomeText (totalOutcome outcome)) (now (out .exit)) r ⌝ }
+    ensures { λ r. ⌜ Put (before out) at (outcomeText (totalOutcome outcome)) (after out) r ⌝ }
 {
     match outcome {
         Totalled::Pages(pages) => {
@@ -58,7 +60,7 @@ fn put_outcome(outcome: Totalled, out: &mut [u8], at: usize) -> usize
 
 // A space and a number.
 fn put_number(n: u64, out: &mut [u8], at: usize) -> usize
-    ensures { λ r. ⌜ Put (now (out .entry)) at (numberText n) (now (out .exit)) r ⌝ }
+    ensures { λ r. ⌜ Put (before out) at (numberText n) (after out) r ⌝ }
 {
     let behind_space = put(out, at, b" ");
     put_digits(n, out, behind_space)
@@ -66,7 +68,7 @@ fn put_number(n: u64, out: &mut [u8], at: usize) -> usize
 
 // A number in decimal.
 fn put_digits(n: u64, out: &mut [u8], at: usize) -> usize
-    ensures { λ r. ⌜ Put (now (out .entry)) at (digitsOf n) (now (out .exit)) r ⌝ }
+    ensures { λ r. ⌜ Put (before out) at (digitsOf n) (after out) r ⌝ }
 {
     let mut digits = [0u8; 20];
     let count = io::decimal(n, &mut digits);
@@ -75,7 +77,7 @@ fn put_digits(n: u64, out: &mut [u8], at: usize) -> usize
 
 // Bytes, as many as have room.
 fn put(out: &mut [u8], at: usize, bytes: &[u8]) -> usize
-    ensures { λ r. ⌜ Put (now (out .entry)) at (now (bytes .entry)) (now (out .exit)) r ⌝ }
+    ensures { λ r. ⌜ Put (before out) at (before bytes) (after out) r ⌝ }
 {
     let n = fitting(bytes.len(), at, out.len());
     let mut i = 0;

@@ -13,9 +13,10 @@ use borrow.Author.Tests.{le-leb, lt-leb, lt-ltb, le-ltb, ltb-true, leb-true, eq-
 use Rattle.refusal.specs.Outcome.{answer, refused}
 use Rattle.laws.proofs.Tests.{cond-cases}
 use Rattle.refusal.proofs.OutcomeLaws.{unanswer, check-answer}
-use Rattle.page.specs.PageSize.{IsPageSize}
+use Rattle.page.specs.PageSize.{IsPageSize, pageBytes}
+use Rattle.page.specs.declared.size.PageSize.{PageSize}
 use Rattle.page.specs.Pages.{pageCount}
-use Rattle.page.proofs.PageSizeLaws.{page-least}
+use Rattle.page.proofs.PageSizeLaws.{page-least, page-bytes}
 use Rattle.page.proofs.PagesLaws.{page-within}
 use Rattle.lookup.specs.Lookup.{firstOf, Place, inPending, inStore, find, lookup}
 
@@ -48,66 +49,73 @@ room-enough s n b hs h = omega (arith, le-div-iff-mul-le {k = s} {x = n} {y = b}
 within-pages : (s i n b : ℕ) → i < n → s * n ≤ b → s * i + s ≤ b
 within-pages s i n b h room = omega (arith, mul-le-mul-left s h, mul-suc s i)
 
-page-some : {s : ℕ} → IsPageSize s → 0 < s
-page-some size = omega (arith, page-least size)
-
 -- the s bytes of a place lie in its slice
 abbrev pub Within : ℕ → List ℕ → List ℕ → Place → Type 0
 Within s pending store (inPending at) = at + s ≤ length pending
 Within s pending store (inStore at) = at + s ≤ length store
 
-module _ {s : ℕ} (size : IsPageSize s) (numbers pending store : List ℕ) (page : ℕ) where
-  -- refusal 9
-  pub find-short : length pending / s < length numbers → refused 9 [] ≡ find s numbers pending store page
-  unfolding find
-  find-short h = rw (lt-leb _ _ (room-short s (length numbers) (length pending) (page-some size) h))
+-- s is the page size in bytes, as the code has it
+module _ (z : PageSize) {s : ℕ} (sized : s ≡ pageBytes z) where
+  pub is-size : IsPageSize s
+  is-size = rw sized (page-bytes z)
 
-  module _ (room : length numbers ≤ length pending / s) {i : ℕ} (place : i ≡ firstOf page numbers) where
-    enough : leb (s * length numbers) (length pending) ≡ true
-    enough = le-leb _ _ (room-enough s (length numbers) (length pending) (page-some size) room)
+  pub page-some : 0 < s
+  page-some = omega (arith, page-least is-size)
 
-    -- a pending page
-    pub find-pending : i < length numbers → answer (inPending (s * i)) ≡ find s numbers pending store page
+  module _ (numbers pending store : List ℕ) (page : ℕ) where
+    -- refusal 9
+    pub find-short : length pending / s < length numbers → refused 9 [] ≡ find (pageBytes z) numbers pending store page
     unfolding find
-    find-pending h = rw (enough, ← place, lt-ltb _ _ h)
+    find-short h = rw (← sized, lt-leb _ _ (room-short s (length numbers) (length pending) page-some h))
 
-    module _ (none : length numbers ≤ i) {count : ℕ} (counted : count ≡ pageCount s store) where
-      -- refusal 15
-      pub find-missing : count ≤ page → refused 15 (page ∷ []) ≡ find s numbers pending store page
+    module _ (room : length numbers ≤ length pending / s) {i : ℕ} (place : i ≡ firstOf page numbers) where
+      enough : leb (s * length numbers) (length pending) ≡ true
+      enough = le-leb _ _ (room-enough s (length numbers) (length pending) page-some room)
+
+      -- a pending page
+      pub find-pending : i < length numbers → answer (inPending (s * i)) ≡ find (pageBytes z) numbers pending store page
       unfolding find
-      find-missing h = rw (enough, ← place, ← counted, le-ltb _ _ none, le-ltb _ _ h)
+      find-pending h = rw (← sized, enough, ← place, lt-ltb _ _ h)
 
-      -- a page of the store
-      pub find-stored : page < count → answer (inStore (s * page)) ≡ find s numbers pending store page
-      unfolding find
-      find-stored h = rw (enough, ← place, ← counted, le-ltb _ _ none, lt-ltb _ _ h)
+      module _ (none : length numbers ≤ i) {count : ℕ} (counted : count ≡ pageCount s store) where
+        -- refusal 15
+        pub find-missing : count ≤ page → refused 15 (page ∷ []) ≡ find (pageBytes z) numbers pending store page
+        unfolding find
+        find-missing h = rw (← sized, enough, ← place, ← counted, le-ltb _ _ none, le-ltb _ _ h)
 
-  -- ---- the other way: what was found lies in its slice
+        -- a page of the store
+        pub find-stored : page < count → answer (inStore (s * page)) ≡ find (pageBytes z) numbers pending store page
+        unfolding find
+        find-stored h = rw (← sized, enough, ← place, ← counted, le-ltb _ _ none, lt-ltb _ _ h)
 
-  pub found-within : {place : Place} → answer place ≡ find s numbers pending store page → Within s pending store place
-  unfolding find
-  found-within e =
-      let i = firstOf page numbers in
-      let isPending = ltb i (length numbers) in
-      let isStored = ltb page (pageCount s store) in
-      let room = check-answer (leb (s * length numbers) (length pending)) 9 [] _ (sym e) in
-      let found = check-answer (isPending || isStored) 15 (page ∷ []) _ (room .1) in
-      subst (Within s pending store) (unanswer (found .1))
-      (cond-cases (Within s pending store) isPending (inPending (s * i)) (inStore (s * page))
-      (λ t. within-pages s i (length numbers) (length pending) (ltb-true _ _ t) (leb-true _ _ (room .0)))
-      (λ t. page-within s store page (page-some size) (ltb-true _ _ (subst (λ (b : Bool). b || isStored ≡ true) t (found .0)))))
+    -- ---- the other way: what was found lies in its slice
 
--- ---- the bytes of what was found
+    pub found-within : {place : Place} → answer place ≡ find (pageBytes z) numbers pending store page → Within s pending store place
+    unfolding find
+    found-within e =
+        let i = firstOf page numbers in
+        let isPending = ltb i (length numbers) in
+        let isStored = ltb page (pageCount s store) in
+        let room = check-answer (leb (s * length numbers) (length pending)) 9 [] _ (sym (rw (← sized) at e)) in
+        let found = check-answer (isPending || isStored) 15 (page ∷ []) _ (room .1) in
+        subst (Within s pending store) (unanswer (found .1))
+        (cond-cases (Within s pending store) isPending (inPending (s * i)) (inStore (s * page))
+        (λ t. within-pages s i (length numbers) (length pending) (ltb-true _ _ t) (leb-true _ _ (room .0)))
+        (λ t. page-within s store page page-some (ltb-true _ _ (subst (λ (b : Bool). b || isStored ≡ true) t (found .0)))))
 
-module _ (s : ℕ) (numbers pending store : List ℕ) (page : ℕ) where
-  pub lookup-pending : {at : ℕ} → answer (inPending at) ≡ find s numbers pending store page → take (at + s - at) (drop at pending) ≡ lookup s numbers pending store page
-  unfolding lookup
-  lookup-pending {at} e = let d : at + s - at ≡ s = omega arith in rw (← e, d)
+    -- ---- the bytes of what was found
 
-  pub lookup-stored : {at : ℕ} → answer (inStore at) ≡ find s numbers pending store page → take (at + s - at) (drop at store) ≡ lookup s numbers pending store page
-  unfolding lookup
-  lookup-stored {at} e = let d : at + s - at ≡ s = omega arith in rw (← e, d)
+    pub lookup-pending : {at : ℕ} → answer (inPending at) ≡ find (pageBytes z) numbers pending store page
+        → take (at + s - at) (drop at pending) ≡ lookup (pageBytes z) numbers pending store page
+    unfolding lookup
+    lookup-pending {at} e = let d : at + s - at ≡ s = omega arith in rw (← e, d, sized)
 
-  pub lookup-refused : {number : ℕ} {values : List ℕ} → refused number values ≡ find s numbers pending store page → [] ≡ lookup s numbers pending store page
-  unfolding lookup
-  lookup-refused e = rw (← e)
+    pub lookup-stored : {at : ℕ} → answer (inStore at) ≡ find (pageBytes z) numbers pending store page
+        → take (at + s - at) (drop at store) ≡ lookup (pageBytes z) numbers pending store page
+    unfolding lookup
+    lookup-stored {at} e = let d : at + s - at ≡ s = omega arith in rw (← e, d, sized)
+
+    pub lookup-refused : {number : ℕ} {values : List ℕ} → refused number values ≡ find (pageBytes z) numbers pending store page
+        → [] ≡ lookup (pageBytes z) numbers pending store page
+    unfolding lookup
+    lookup-refused e = rw (← e)

@@ -1,4 +1,5 @@
--- Cells: what is encoded is decoded again; and writing and reading one, way by way.
+-- Cells: what is encoded is decoded again, and writing and reading one, test by test. Each part of a cell is found behind those before
+-- it.
 use Prim.Native.Nat.{ℕ, _+_, _*_, _%_, _^_, _<_, _≤_}
 use native.Mathlib.Nat.{zero-add}
 use native.Mathlib.Omega.{arith}
@@ -9,15 +10,16 @@ use lib.Dec.{leb, eqb}
 use lib.ListN.{length, getD, take, drop, length-append}
 use lib.Seq.{sets, getD-append-add, take-all, take-at, drop-at}
 use borrow.Author.Tests.{le-leb, lt-leb, leb-true, eq-eqb}
-use Rattle.refusal.specs.Outcome.{Outcome, answer, refused}
+use Rattle.refusal.specs.Outcome.{answer, refused}
+use Rattle.refusal.specs.Effect.{effect}
 use Rattle.laws.proofs.Tests.{and-true}
 use Rattle.refusal.proofs.OutcomeLaws.{check-answer, withAnswer-answer, withAnswer-refused}
 use Rattle.page.specs.Bytes.{bytesOf, numbersAt, bytesOfAll}
 use Rattle.laws.proofs.SetsLaws.{sets-append}
 use Rattle.page.proofs.BytesLaws.{numberAt-append-left, numbersAt-same, numberAt-bytesOf, numbersAt-bytesOfAll, length-bytesOf, length-bytesOfAll}
 use Rattle.overflow.specs.Totals.{maxSize}
-use Rattle.overflow.specs.Cells.{Cell, hashSize, cellHeader, cellBytes, encodeCell, encodeCellInto, cellSize, cellCount, cellOf, decodeCell, CellCounts, countsOf, cellCounts, DecodeEffect, decodeCellInto}
-use Rattle.overflow.proofs.StoredLaws.{stored}
+use Rattle.overflow.specs.Cells.{Cell, cellWith, hashSize, cellHeader, cellBytes, encodeCell, encodeCellInto, cellSize, cellCount, cellOf, decodeCell, CellCounts, cellCountsOf, cellCounts, decodeCellInto}
+use Rattle.overflow.proofs.TotalsLaws.{max-size}
 
 -- ---- out
 
@@ -26,87 +28,94 @@ unfolding cellBytes
 length-cellBytes c hash =
     omega (arith, length-append (bytesOf 8 (c .size)) (c .hash ++ bytesOfAll 4 (c .numbers)), length-append (c .hash) (bytesOfAll 4 (c .numbers)), length-bytesOf 8 (c .size), length-bytesOfAll 4 (c .numbers))
 
-module _ (size : ℕ) (hash numbers buffer : List ℕ) where
-  abbrev this : Cell
-  this = record { size = size; hash = hash; numbers = numbers }
-
+module _ (s size : ℕ) (hash numbers buffer : List ℕ) where
   -- a size that no value has
-  pub cell-large : maxSize < size → stored (refused 10 []) buffer ≡ encodeCellInto this buffer
+  pub cell-large : maxSize s < size → effect (refused 10 []) buffer ≡ encodeCellInto s (cellWith size hash numbers) buffer
   unfolding encodeCellInto encodeCell
-  cell-large h = rw (lt-leb size maxSize h)
+  cell-large h = rw (lt-leb size (maxSize s) h)
 
-  module _ (few : size ≤ maxSize) where
+  module _ (few : size ≤ maxSize s) where
     -- a buffer shorter than the cell
-    pub cell-short : length buffer < cellHeader + 4 * length numbers → stored (refused 13 []) buffer ≡ encodeCellInto this buffer
+    pub cell-short : length buffer < cellHeader + 4 * length numbers → effect (refused 13 []) buffer ≡ encodeCellInto s (cellWith size hash numbers) buffer
     unfolding encodeCellInto encodeCell
-    cell-short h = rw (le-leb size maxSize few, lt-leb (cellHeader + 4 * length numbers) (length buffer) h)
+    cell-short h = rw (le-leb size (maxSize s) few, lt-leb (cellHeader + 4 * length numbers) (length buffer) h)
 
     -- the cell, written part by part
-    pub cell-written : length hash ≡ hashSize → cellHeader + 4 * length numbers ≤ length buffer → (a b d : List ℕ)
+    pub cell-written : length hash ≡ hashSize → cellHeader + 4 * length numbers ≤ length buffer → {a b d : List ℕ}
         → a ≡ sets buffer 0 (bytesOf 8 size)
         → b ≡ sets a 8 (take hashSize (drop 0 hash))
         → d ≡ sets b cellHeader (bytesOfAll 4 (take (length numbers) (drop 0 numbers)))
-        → stored (answer (cellHeader + 4 * length numbers)) d ≡ encodeCellInto this buffer
+        → effect (answer (cellHeader + 4 * length numbers)) d ≡ encodeCellInto s (cellWith size hash numbers) buffer
     unfolding encodeCellInto encodeCell cellBytes bytesOf
-    cell-written long h a b d p q r =
+    cell-written long h {a} {b} {d} p q r =
+        let c = cellWith size hash numbers in
         let A = bytesOf 8 size in
         let N = bytesOfAll 4 numbers in
         let parts = sets-append buffer 0 A (hash ++ N) ∙ sets-append (sets buffer 0 A) 8 hash N ∙ ap (λ (k : ℕ). sets (sets (sets buffer 0 A) 8 hash) (8 + k) N) long in
         let all : take hashSize hash ≡ hash = take-all hashSize hash (omega arith) in
         let every : take (length numbers) numbers ≡ numbers = take-all (length numbers) numbers (omega arith) in
-        let written : d ≡ sets buffer 0 (cellBytes this) = r ∙ rw (q, p, all, every) (sym parts) in
-        rw (written, le-leb size maxSize few, le-leb (cellHeader + 4 * length numbers) (length buffer) h, length-cellBytes this long)
+        let written : d ≡ sets buffer 0 (cellBytes c) = r ∙ rw (q, p, all, every) (sym parts) in
+        rw (written, le-leb size (maxSize s) few, le-leb (cellHeader + 4 * length numbers) (length buffer) h, length-cellBytes c long)
 
 -- ---- in
 
 -- what is known of bytes that gave these counts
-pub record Decoding (b : List ℕ) (k : CellCounts) : Type 0 where
+pub record Decoding (s : ℕ) (b : List ℕ) (k : CellCounts) : Type 0 where
   pub long : cellHeader + 4 ≤ length b
-  pub read : decodeCell b ≡ answer (cellOf b)
-  pub counts : countsOf (cellOf b) ≡ k
-  pub few : cellOf b .size ≤ maxSize
+  pub read : decodeCell s b ≡ answer (cellOf b)
+  pub counts : cellCountsOf (cellOf b) ≡ k
+  pub few : cellOf b .size ≤ maxSize s
 
--- what a call leaves
-abbrev effect : Outcome CellCounts → List ℕ → DecodeEffect
-effect outcome hash = record { outcome = outcome; hash = hash }
+module _ (s : ℕ) (b : List ℕ) where
+  -- bytes that are read are the cell
+  pub decoded : {c : Cell} → decodeCell s b ≡ answer c → Decoding s b (cellCountsOf c) × (c ≡ cellOf b)
+  unfolding decodeCell cellOf
+  decoded {c} e =
+      let t = check-answer (leb (cellHeader + 4) (length b) && eqb (length b % 4) 0) 12 [] _ e in
+      let u = check-answer (leb (cellSize b) (maxSize s)) 10 [] _ (t .1) in
+      let whole : cellOf b ≡ c = cc in (
+        record {
+          long = leb-true (cellHeader + 4) (length b) (and-true (leb (cellHeader + 4) (length b)) (eqb (length b % 4) 0) (t .0) .0);
+          read = e ∙ ap answer (sym whole);
+          counts = ap cellCountsOf whole;
+          few = leb-true (cellSize b) (maxSize s) (u .0);
+        },
+        sym whole,
+      )
 
-module _ (b : List ℕ) where
-  pub decoding : (k : CellCounts) → answer k ≡ cellCounts b → Decoding b k
-  unfolding cellCounts decodeCell cellOf
-  decoding k e =
-      let w = withAnswer-answer (λ c. answer (countsOf c)) (decodeCell b) (sym e) in
-      let t = check-answer (leb (cellHeader + 4) (length b) && eqb (length b % 4) 0) 12 [] _ (w .1) in
-      let u = check-answer (leb (cellSize b) maxSize) 10 [] _ (t .1) in
-      let whole : cellOf b ≡ w .0 = cc in
-      let same : countsOf (w .0) ≡ k = cc in
-      record {
-        long = leb-true (cellHeader + 4) (length b) (and-true (leb (cellHeader + 4) (length b)) (eqb (length b % 4) 0) (t .0) .0);
-        read = w .1 ∙ ap answer (sym whole);
-        counts = ap countsOf whole ∙ same;
-        few = leb-true (cellSize b) maxSize (u .0);
-      }
+  pub decoding : {k : CellCounts} → answer k ≡ cellCounts s b → Decoding s b k
+  unfolding cellCounts
+  decoding {k} e =
+      let w = withAnswer-answer (λ c. answer (cellCountsOf c)) (decodeCell s b) (sym e) in
+      let same : cellCountsOf (w .0) ≡ k = cc in
+      let d = decoded (w .1) .0 in
+      record { long = d .long; read = d .read; counts = d .counts ∙ same; few = d .few }
+
+  pub not-decoded : {n : ℕ} {vs : List ℕ} → refused n vs ≡ cellCounts s b → decodeCell s b ≡ refused n vs
+  unfolding cellCounts
+  not-decoded e = withAnswer-refused cellCountsOf (decodeCell s b) (sym e)
 
   module _ (hash : List ℕ) where
     -- a refusal leaves the hash
-    pub into-refused : (number : ℕ) (values : List ℕ) → refused number values ≡ cellCounts b → effect (refused number values) hash ≡ decodeCellInto b hash
-    unfolding cellCounts decodeCellInto
-    into-refused number values e = rw (withAnswer-refused countsOf (decodeCell b) (sym e))
+    pub into-refused : {n : ℕ} {vs : List ℕ} → refused n vs ≡ cellCounts s b → effect (refused n vs) hash ≡ decodeCellInto s b hash
+    unfolding decodeCellInto
+    into-refused e = rw (not-decoded e)
 
     -- a cell's hash is put there
-    pub into-decoded : (k : CellCounts) → answer k ≡ cellCounts b → (h : List ℕ) → h ≡ sets hash 0 (take hashSize (drop 8 b)) → effect (answer k) h ≡ decodeCellInto b hash
+    pub into-decoded : {k : CellCounts} → answer k ≡ cellCounts s b → {h : List ℕ} → h ≡ sets hash 0 (take hashSize (drop 8 b)) → effect (answer k) h ≡ decodeCellInto s b hash
     unfolding decodeCellInto cellOf
-    into-decoded k e h f =
-        let d = decoding k e in
+    into-decoded e f =
+        let d = decoding e in
         rw (d .read, ← d .counts, f)
 
 -- ---- what is encoded is decoded again
 
-module _ (c : Cell) (few : c .size ≤ maxSize) (hash : length (c .hash) ≡ hashSize) where
+module _ (s : ℕ) (c : Cell) (few : c .size ≤ maxSize s) (hash : length (c .hash) ≡ hashSize) where
   size-encoded : cellSize (cellBytes c) ≡ c .size
   unfolding cellSize cellBytes
   size-encoded =
       numberAt-append-left 8 (bytesOf 8 (c .size)) (c .hash ++ bytesOfAll 4 (c .numbers)) 0 (omega (arith, length-bytesOf 8 (c .size)))
-      ∙ numberAt-bytesOf 8 (c .size) (omega arith)
+      ∙ numberAt-bytesOf 8 (c .size) (omega (arith, max-size s))
 
   hash-encoded : take hashSize (drop 8 (cellBytes c)) ≡ c .hash
   unfolding cellBytes
@@ -138,9 +147,9 @@ module _ (c : Cell) (few : c .size ≤ maxSize) (hash : length (c .hash) ≡ has
     cell-encoded = λ i. record { size = size-encoded i; hash = hash-encoded i; numbers = numbers-encoded i }
 
     -- a cell with a number or more is read back
-    pub decode-encoded : 1 ≤ length (c .numbers) → decodeCell (cellBytes c) ≡ answer c
+    pub decode-encoded : 1 ≤ length (c .numbers) → decodeCell s (cellBytes c) ≡ answer c
     unfolding decodeCell
     decode-encoded some =
         let long = length-cellBytes c hash in
-        rw (le-leb (cellHeader + 4) (length (cellBytes c)) (omega arith), eq-eqb (length (cellBytes c) % 4) 0 (omega arith), le-leb (cellSize (cellBytes c)) maxSize (omega (arith, size-encoded)))
+        rw (le-leb (cellHeader + 4) (length (cellBytes c)) (omega arith), eq-eqb (length (cellBytes c) % 4) 0 (omega arith), le-leb (cellSize (cellBytes c)) (maxSize s) (omega (arith, size-encoded)))
         (ap answer cell-encoded)

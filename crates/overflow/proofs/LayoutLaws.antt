@@ -1,13 +1,13 @@
 -- The pages of a value together hold all its numbers after the cell's and all its bytes, and none is empty.
+-- The sums up to page i are one minimum each, so that what is taken page by page is known at once.
 use Prim.Native.Nat.{ℕ, zero, suc, _+_, _*_, _-_, min, _≤_, _<_}
 use mathlib.Core.Path.{_≡_, refl}
 use native.Mathlib.Nat.{mul-suc, mul-zero, add-zero, add-suc, mul-le-mul-right}
 use native.Mathlib.Omega.{arith}
 use Rattle.page.specs.PageSize.{IsPageSize}
 use Rattle.page.proofs.PageSizeLaws.{page-least, page-words}
-use Rattle.overflow.specs.Totals.{cellNumbers, body, totalPages}
+use Rattle.overflow.specs.Totals.{cellNumbers, body}
 use Rattle.overflow.specs.Layout.{numbersPerPage, numbersBefore, numbersOn, bytesBefore, bytesOn}
-use Rattle.overflow.proofs.TotalsLaws.{total-enough, total-tight}
 
 -- taking what is left, up to x and then up to y, takes up to x + y
 taken-twice : (size x y : ℕ) → min size x + min y (size - min size x) ≡ min size (x + y)
@@ -110,18 +110,3 @@ module _ {s : ℕ} (total : ℕ) (page : IsPageSize s) where
   pub page-nonempty : (size i : ℕ) → body s * total < size + 4 * (total - cellNumbers) + body s → i < total → 1 ≤ numbersOn s total i + bytesOn s total size i
   unfolding bytesOn
   page-nonempty size i tight h = omega (arith, bytes-left size i tight h, page-least page)
-
--- ---- the pages of a value as it is written
-
-module _ {s : ℕ} (size : ℕ) (page : IsPageSize s) where
-  -- together they hold every number after the cell's
-  pub value-numbers-all : numbersBefore s (totalPages s size) (totalPages s size) ≡ totalPages s size - cellNumbers
-  value-numbers-all = numbers-all (totalPages s size) page
-
-  -- and every byte
-  pub value-bytes-all : bytesBefore s (totalPages s size) size (totalPages s size) ≡ size
-  value-bytes-all = bytes-all (totalPages s size) page size (total-enough size page)
-
-  -- and none is empty
-  pub value-page-nonempty : (i : ℕ) → i < totalPages s size → 1 ≤ numbersOn s (totalPages s size) i + bytesOn s (totalPages s size) size i
-  value-page-nonempty i = page-nonempty (totalPages s size) page size i (total-tight size page)

@@ -1,5 +1,6 @@
 -- The total is enough for the value and the numbers that the cell has no place for, and with one page less there would be bytes left.
-use Prim.Native.Nat.{ℕ, zero, suc, _+_, _*_, _-_, _/_, _≤_, _<_}
+-- By the two cases of the rule (`total-cases`), each an inequality of a quotient.
+use Prim.Native.Nat.{ℕ, zero, suc, _+_, _*_, _-_, _/_, _^_, _≤_, _<_}
 use mathlib.Core.Path.{_≡_, sym, subst}
 use mathlib.Core.Logic.{⊎-elim}
 use mathlib.Core.Bool.{true, false, _||_}
@@ -8,9 +9,19 @@ use native.Mathlib.Omega.{arith}
 use borrow.Author.Tests.{leb-true, leb-false}
 use lib.Dec.{leb}
 use Rattle.laws.proofs.Tests.{cond-cases, or-true, or-false}
-use Rattle.page.specs.PageSize.{IsPageSize}
-use Rattle.page.proofs.PageSizeLaws.{page-least}
-use Rattle.overflow.specs.Totals.{cellNumbers, body, rawPages, totalPages}
+use Rattle.page.specs.PageSize.{IsPageSize, pageBytes}
+use Rattle.page.specs.declared.size.PageSize.{PageSize}
+use Rattle.page.proofs.PageSizeLaws.{page-least, page-bytes}
+use Rattle.overflow.specs.Totals.{maxSize, cellNumbers, body, rawPages, totalPages}
+
+-- the bytes that the code gets for a page size
+pub is-page-size : {bytes : ℕ} (z : PageSize) → bytes ≡ pageBytes z → IsPageSize bytes
+is-page-size z e = rw e (page-bytes z)
+
+-- no page size has a larger limit
+pub max-size : (s : ℕ) → maxSize s ≤ 2 ^ 29
+unfolding maxSize
+max-size s = omega arith
 
 -- a factor of a positive product
 positive-factor : (a n : ℕ) → 0 < a * n → 0 < n
@@ -99,6 +110,9 @@ module _ {s : ℕ} (size : ℕ) (page : IsPageSize s) where
       total-cases (λ t. body s * t < size + 4 * (t - cellNumbers) + body s) (λ _. omega (arith, raw-tight))
       (λ past short. extra-tight (body s) (rawPages s size) size (omega (arith, page-least page)) past short)
 
-  -- the total is not much more than the size
+  -- the total is not much more than the size, and so than the limit
   pub total-small : totalPages s size ≤ size + 4
   total-small = few-pages (body s) (totalPages s size) size (omega (arith, page-least page)) total-tight
+
+  pub total-few : size ≤ maxSize s → totalPages s size ≤ maxSize s + 4
+  total-few h = omega (arith, total-small)

@@ -1,21 +1,22 @@
--- Value pages: what is encoded is decoded again, on one page and on all pages of a value.
-use Prim.Native.Nat.{ℕ, suc, _+_, _*_, _-_, _^_, _<_, _≤_}
+-- Value pages: what is encoded is decoded again, on any page and on the pages of a value. Each part of a page is found behind those
+-- before it.
+use Prim.Native.Nat.{ℕ, _+_, _*_, _-_, _^_, _<_, _≤_}
 use native.Mathlib.Nat.{zero-add}
 use native.Mathlib.Omega.{arith}
-use mathlib.Core.Path.{_≡_, ap, sym, _∙_, subst}
-use mathlib.Core.List.{List, _++_, List·Memᴰ, Memᴰ·append-left, Memᴰ·append-right}
-use lib.ListN.{length, getD, take, drop, replicate, length-append, length-replicate, length-drop, take-append-drop}
-use lib.Seq.{sets, getD-append-add, drop-append-add, drop-append-seam, take-append-seam, drop-drop, take-add, take-all, take-length, length-take-le}
+use mathlib.Core.Path.{_≡_, ap, sym, _∙_}
+use mathlib.Core.List.{List, _++_, List·Memᴰ}
+use lib.ListN.{length, getD, take, drop, replicate, length-append, length-replicate, length-drop}
+use lib.Seq.{sets, getD-append-add, drop-append-add, drop-append-seam, take-append-seam, length-take-le}
 use Rattle.page.specs.PageSize.{IsPageSize}
 use Rattle.page.specs.Bytes.{bytesOf, numbersAt, bytesOfAll}
 use Rattle.page.proofs.PageSizeLaws.{page-least}
 use Rattle.laws.proofs.PlacesLaws.{part-mem}
 use Rattle.laws.proofs.SetsLaws.{sets-append}
 use Rattle.page.proofs.BytesLaws.{numberAt-append-left, numberAt-append-right, numbersAt-same, numberAt-bytesOf, numbersAt-bytesOfAll, length-bytesOf, length-bytesOfAll}
-use Rattle.overflow.specs.Totals.{cellNumbers, body, totalPages}
+use Rattle.overflow.specs.Totals.{cellNumbers, body}
 use Rattle.overflow.specs.Layout.{numbersBefore, numbersOn, bytesBefore, bytesOn}
 use Rattle.overflow.specs.ValuePages.{numberCount, byteCount, valueNumbers, valueBytes, encodeValuePage, valuePage}
-use Rattle.overflow.proofs.LayoutLaws.{numbersBefore-suc, bytesBefore-suc, numbers-within, bytes-within, page-fits, value-numbers-all, value-bytes-all}
+use Rattle.overflow.proofs.LayoutLaws.{numbers-within, bytes-within, page-fits}
 
 -- ---- one page
 
@@ -95,93 +96,54 @@ module _ (s : ℕ) (ns bs : List ℕ) where
 -- ---- the pages of a value
 
 -- the numbers and the bytes of page i
-abbrev pub pageNumbers : ℕ → List ℕ → List ℕ → ℕ → List ℕ
-pageNumbers s value numbers i =
-    let total = totalPages s (length value) in
-    take (numbersOn s total i) (drop (cellNumbers + numbersBefore s total i) numbers)
+abbrev pub numbersOnPage : ℕ → ℕ → List ℕ → ℕ → List ℕ
+numbersOnPage s total numbers i = take (numbersOn s total i) (drop (cellNumbers + numbersBefore s total i) numbers)
 
-abbrev pub pageBytes : ℕ → List ℕ → ℕ → List ℕ
-pageBytes s value i =
-    let size = length value in
-    let total = totalPages s size in
-    take (bytesOn s total size i) (drop (bytesBefore s total size i) value)
+abbrev pub bytesOnPage : ℕ → ℕ → List ℕ → ℕ → List ℕ
+bytesOnPage s total value i = take (bytesOn s total (length value) i) (drop (bytesBefore s total (length value) i) value)
 
-module _ {s : ℕ} (page : IsPageSize s) (value numbers : List ℕ) (whole : length numbers ≡ totalPages s (length value)) (i : ℕ) where
+module _ {s total : ℕ} (page : IsPageSize s) (value numbers : List ℕ) (whole : length numbers ≡ total) (i : ℕ) where
+  abbrev ns : List ℕ
+  ns = numbersOnPage s total numbers i
+
+  abbrev bs : List ℕ
+  bs = bytesOnPage s total value i
+
   -- they are as many as the layout says, and fit the page
-  pub length-pageNumbers : length (pageNumbers s value numbers i) ≡ numbersOn s (totalPages s (length value)) i
-  length-pageNumbers =
-      let total = totalPages s (length value) in
+  length-numbersOnPage : length ns ≡ numbersOn s total i
+  length-numbersOnPage =
       let before = cellNumbers + numbersBefore s total i in
       length-take-le (numbersOn s total i) (drop before numbers) (omega (arith, length-drop before numbers, numbers-within total page i))
 
-  pub length-pageBytes : length (pageBytes s value i) ≡ bytesOn s (totalPages s (length value)) (length value) i
-  length-pageBytes =
-      let size = length value in
-      let total = totalPages s size in
-      length-take-le (bytesOn s total size i) (drop (bytesBefore s total size i) value) (omega (arith, length-drop (bytesBefore s total size i) value, bytes-within total page size i))
+  length-bytesOnPage : length bs ≡ bytesOn s total (length value) i
+  length-bytesOnPage =
+      let before = bytesBefore s total (length value) i in
+      length-take-le (bytesOn s total (length value) i) (drop before value) (omega (arith, length-drop before value, bytes-within total page (length value) i))
 
-  parts-fit : 4 + 4 * length (pageNumbers s value numbers i) + length (pageBytes s value i) ≤ s
-  parts-fit = rw (length-pageNumbers, length-pageBytes) (omega (arith, page-least page, page-fits (totalPages s (length value)) page (length value) i))
+  parts-fit : 4 + 4 * length ns + length bs ≤ s
+  parts-fit = rw (length-numbersOnPage, length-bytesOnPage) (omega (arith, page-least page, page-fits total page (length value) i))
 
   -- what is decoded from page i
-  pub length-valuePage : length (valuePage s value numbers i) ≡ s
+  pub length-valuePage : length (valuePage s total value numbers i) ≡ s
   unfolding valuePage
-  length-valuePage = length-encoded s (pageNumbers s value numbers i) (pageBytes s value i) page parts-fit
+  length-valuePage = length-encoded s ns bs page parts-fit
 
-  pub numberCount-valuePage : numberCount (valuePage s value numbers i) ≡ numbersOn s (totalPages s (length value)) i
+  pub numberCount-valuePage : numberCount (valuePage s total value numbers i) ≡ numbersOn s total i
   unfolding valuePage
-  numberCount-valuePage = number-count-encoded s (pageNumbers s value numbers i) (pageBytes s value i) page parts-fit ∙ length-pageNumbers
+  numberCount-valuePage = number-count-encoded s ns bs page parts-fit ∙ length-numbersOnPage
 
-  pub byteCount-valuePage : byteCount (valuePage s value numbers i) ≡ bytesOn s (totalPages s (length value)) (length value) i
+  pub byteCount-valuePage : byteCount (valuePage s total value numbers i) ≡ bytesOn s total (length value) i
   unfolding valuePage
-  byteCount-valuePage = byte-count-encoded s (pageNumbers s value numbers i) (pageBytes s value i) page parts-fit ∙ length-pageBytes
+  byteCount-valuePage = byte-count-encoded s ns bs page parts-fit ∙ length-bytesOnPage
 
-  pub valuePage-fits : 4 * numberCount (valuePage s value numbers i) + byteCount (valuePage s value numbers i) ≤ body s
-  valuePage-fits = rw (numberCount-valuePage, byteCount-valuePage) (page-fits (totalPages s (length value)) page (length value) i)
+  pub valuePage-fits : 4 * numberCount (valuePage s total value numbers i) + byteCount (valuePage s total value numbers i) ≤ body s
+  valuePage-fits = rw (numberCount-valuePage, byteCount-valuePage) (page-fits total page (length value) i)
 
-  pub valueNumbers-valuePage : ((n : ℕ) → List·Memᴰ n numbers → n < 256 ^ 4) → valueNumbers (valuePage s value numbers i) ≡ pageNumbers s value numbers i
+  pub valueNumbers-valuePage : ((n : ℕ) → List·Memᴰ n numbers → n < 256 ^ 4) → valueNumbers (valuePage s total value numbers i) ≡ ns
   unfolding valuePage
   valueNumbers-valuePage fit =
-      let total = totalPages s (length value) in
-      numbers-encoded s (pageNumbers s value numbers i) (pageBytes s value i) page parts-fit
-      (λ n m. fit n (part-mem n (numbersOn s total i) (cellNumbers + numbersBefore s total i) numbers m))
+      numbers-encoded s ns bs page parts-fit (λ n m. fit n (part-mem n (numbersOn s total i) (cellNumbers + numbersBefore s total i) numbers m))
 
-  pub valueBytes-valuePage : valueBytes (valuePage s value numbers i) ≡ pageBytes s value i
+  pub valueBytes-valuePage : valueBytes (valuePage s total value numbers i) ≡ bs
   unfolding valuePage
-  valueBytes-valuePage = bytes-encoded s (pageNumbers s value numbers i) (pageBytes s value i) page parts-fit
-
--- ---- the pages joined
-
--- what stands on the first pages grows by what stands on the next
-module _ {s : ℕ} (total : ℕ) (page : IsPageSize s) (k : ℕ) where
-  pub numbers-joined : (ns : List ℕ) → take (numbersBefore s total (suc k)) ns ≡ take (numbersBefore s total k) ns ++ take (numbersOn s total k) (drop (numbersBefore s total k) ns)
-  numbers-joined ns = rw (numbersBefore-suc total page k) (take-add (numbersBefore s total k) (numbersOn s total k) ns)
-
-  pub bytes-joined : (size : ℕ) (bs : List ℕ)
-      → take (bytesBefore s total size (suc k)) bs ≡ take (bytesBefore s total size k) bs ++ take (bytesOn s total size k) (drop (bytesBefore s total size k) bs)
-  bytes-joined size bs = rw (bytesBefore-suc total page size k) (take-add (bytesBefore s total size k) (bytesOn s total size k) bs)
-
--- the same of a value's pages
-module _ {s : ℕ} (page : IsPageSize s) (value numbers : List ℕ) where
-  pub value-numbers-joined : (k : ℕ)
-      → take (numbersBefore s (totalPages s (length value)) (suc k)) (drop cellNumbers numbers)
-      ≡ take (numbersBefore s (totalPages s (length value)) k) (drop cellNumbers numbers) ++ pageNumbers s value numbers k
-  value-numbers-joined k =
-      let total = totalPages s (length value) in
-      let before = numbersBefore s total k in
-      numbers-joined total page k (drop cellNumbers numbers)
-      ∙ ap (λ (l : List ℕ). take before (drop cellNumbers numbers) ++ take (numbersOn s total k) l) (drop-drop before cellNumbers numbers)
-
-  pub value-bytes-joined : (k : ℕ)
-      → take (bytesBefore s (totalPages s (length value)) (length value) (suc k)) value
-      ≡ take (bytesBefore s (totalPages s (length value)) (length value) k) value ++ pageBytes s value k
-  value-bytes-joined k = bytes-joined (totalPages s (length value)) page k (length value) value
-
-  -- all pages together hold the numbers past the cell's, and the value
-  pub value-numbers-whole : length numbers ≡ totalPages s (length value)
-      → take (numbersBefore s (totalPages s (length value)) (totalPages s (length value))) (drop cellNumbers numbers) ≡ drop cellNumbers numbers
-  value-numbers-whole whole =
-      take-all (numbersBefore s (totalPages s (length value)) (totalPages s (length value))) (drop cellNumbers numbers) (omega (arith, length-drop cellNumbers numbers, value-numbers-all (length value) page))
-
-  pub value-bytes-whole : take (bytesBefore s (totalPages s (length value)) (length value) (totalPages s (length value))) value ≡ value
-  value-bytes-whole = rw (value-bytes-all (length value) page) (take-length value)
+  valueBytes-valuePage = bytes-encoded s ns bs page parts-fit

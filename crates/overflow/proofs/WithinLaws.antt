@@ -1,4 +1,5 @@
 -- What bytes of any length say as a value page: bytes that reach as far as what is read, and bytes that do not.
+-- Each is one branch of the definition.
 use Prim.Native.Nat.{ℕ, _+_, _*_, _-_, _<_, _≤_}
 use native.Mathlib.Omega.{arith}
 use mathlib.Core.Path.{_≡_, sym}

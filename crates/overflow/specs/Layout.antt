@@ -1,6 +1,9 @@
 -- What the pages of a value hold, at pages of s bytes: the numbers after the cell's fill pages in order, value bytes take the room left.
 use Prim.Native.Nat.{ℕ, zero, suc, _+_, _*_, _-_, _/_, min}
+use mathlib.Core.List.{List}
+use lib.ListN.{take, drop}
 use Rattle.overflow.specs.Totals.{body, cellNumbers}
+use Rattle.overflow.specs.declared.value_page.Part.{Part}
 
 -- how many numbers a page holds at most
 abbrev pub numbersPerPage : ℕ → ℕ
@@ -25,3 +28,17 @@ bytesBefore s total size (suc i) =
 
 unfoldable pub bytesOn : ℕ → ℕ → ℕ → ℕ → ℕ
 bytesOn s total size i = min (body s - 4 * numbersOn s total i) (size - bytesBefore s total size i)
+
+-- ---- the same as parts of the numbers and of the value
+
+-- a part of a list
+abbrev pub partOf : Part → List ℕ → List ℕ
+partOf p xs = take (p .count) (drop (p .from) xs)
+
+-- the numbers of page i; they begin within the list also where the cell has them all
+unfoldable pub numbersPart : ℕ → ℕ → ℕ → Part
+numbersPart s total i = record { from = min total cellNumbers + numbersBefore s total i; count = numbersOn s total i }
+
+-- the bytes of page i
+unfoldable pub bytesPart : ℕ → ℕ → ℕ → ℕ → Part
+bytesPart s total size i = record { from = bytesBefore s total size i; count = bytesOn s total size i }

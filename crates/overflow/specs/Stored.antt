@@ -3,20 +3,15 @@ use Prim.Native.Nat.{ℕ}
 use mathlib.Core.List.{List}
 use lib.ListN.{length}
 use lib.Seq.{sets}
-use Rattle.refusal.specs.Outcome.{Outcome, answer, refused}
+use Rattle.refusal.specs.Outcome.{Outcome, answer}
+use Rattle.refusal.specs.Effect.{Effect, leaves}
 use Rattle.refusal.specs.Refusals.{refusal}
 use Rattle.overflow.specs.declared.stored.Written.{Written}
 use Rattle.overflow.specs.declared.stored.Written.the-variants.{Bytes, Refused}
 
--- what a call leaves: how many bytes it wrote or why it refused, and the buffer
-pub record Stored : Type 0 where
-  pub outcome : Outcome ℕ
-  pub buffer : List ℕ
-
--- the bytes stand at the start of the buffer, whose other places stay; a refusal leaves it as it was
-abbrev pub storedIn : List ℕ → Outcome (List ℕ) → Stored
-storedIn buffer (answer bytes) = record { outcome = answer (length bytes); buffer = sets buffer 0 bytes }
-storedIn buffer (refused number values) = record { outcome = refused number values; buffer = buffer }
+-- the bytes stand at the start of the buffer, whose other places stay, and their count is told
+abbrev pub storedIn : List ℕ → Outcome (List ℕ) → Effect ℕ (List ℕ)
+storedIn buffer = leaves length (sets buffer 0) buffer
 
 -- what the code answers, as an outcome
 abbrev pub writtenOutcome : Written → Outcome ℕ

@@ -9,8 +9,8 @@ use Rattle.overflow.specs.declared.total.Totalled.{Totalled}
 use Rattle.overflow.specs.declared.total.Totalled.the-variants.{Pages, Refused}
 
 -- the largest value
-abbrev pub maxSize : ℕ
-maxSize = 2 ^ 29
+unfoldable pub maxSize : ℕ → ℕ
+maxSize s = 2 ^ 29
 
 -- a cell holds the numbers of so many pages
 abbrev pub cellNumbers : ℕ
@@ -42,7 +42,7 @@ totalOf s size total = record { total = total; cell = min total cellNumbers; spa
 
 -- the same of a size that a value can have, or refusal 10
 unfoldable pub pageTotal : ℕ → ℕ → Outcome Total
-pageTotal s size = check (leb 1 size && leb size maxSize) 10 [] (answer (totalOf s size (totalPages s size)))
+pageTotal s size = check (leb 1 size && leb size (maxSize s)) 10 [] (answer (totalOf s size (totalPages s size)))
 
 -- what the code answers, as an outcome
 abbrev pub totalOutcome : Totalled → Outcome Total

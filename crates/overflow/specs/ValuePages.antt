@@ -5,10 +5,11 @@ use mathlib.Core.List.{List, [], _++_}
 use lib.Dec.{leb, ltb, eqb}
 use lib.ListN.{length, take, drop, replicate}
 use Rattle.refusal.specs.Outcome.{Outcome, answer, check}
+use Rattle.refusal.specs.Effect.{Effect}
 use Rattle.page.specs.Bytes.{numberAt, bytesOf, numbersAt, bytesOfAll}
 use Rattle.overflow.specs.Totals.{maxSize, cellNumbers, totalPages}
 use Rattle.overflow.specs.Layout.{numbersBefore, numbersOn, bytesBefore, bytesOn}
-use Rattle.overflow.specs.Stored.{Stored, storedIn}
+use Rattle.overflow.specs.Stored.{storedIn}
 
 -- the count of numbers
 unfoldable pub numberCount : List ℕ → ℕ
@@ -48,11 +49,10 @@ encodeValuePage s numbers bytes =
     bytesOf 2 (length numbers)
     ++ (bytesOf 2 (length bytes) ++ (bytesOfAll 4 numbers ++ (bytes ++ replicate (s - (4 + 4 * length numbers + length bytes)) 0)))
 
--- page i of a value: its part of the numbers after the cell's, and of the bytes
-unfoldable pub valuePage : ℕ → List ℕ → List ℕ → ℕ → List ℕ
-valuePage s value numbers i =
+-- page i of the `total` pages of a value: its part of the numbers after the cell's, and of the bytes
+unfoldable pub valuePage : ℕ → ℕ → List ℕ → List ℕ → ℕ → List ℕ
+valuePage s total value numbers i =
     let size = length value in
-    let total = totalPages s size in
     encodeValuePage s
     (take (numbersOn s total i) (drop (cellNumbers + numbersBefore s total i) numbers))
     (take (bytesOn s total size i) (drop (bytesBefore s total size i) value))
@@ -62,11 +62,11 @@ unfoldable pub chunk : ℕ → List ℕ → List ℕ → ℕ → ℕ → Outcome
 chunk s value numbers i bytesLent =
     let size = length value in
     let total = totalPages s size in
-    check (leb 1 size && leb size maxSize) 10 []
+    check (leb 1 size && leb size (maxSize s)) 10 []
     (check (eqb (length numbers) total && ltb i total) 11 []
     (check (leb s bytesLent) 9 []
-    (answer (valuePage s value numbers i))))
+    (answer (valuePage s total value numbers i))))
 
 -- write page i of a value into a page buffer
-unfoldable pub chunkInto : ℕ → List ℕ → List ℕ → ℕ → List ℕ → Stored
+unfoldable pub chunkInto : ℕ → List ℕ → List ℕ → ℕ → List ℕ → Effect ℕ (List ℕ)
 chunkInto s value numbers i page = storedIn page (chunk s value numbers i (length page))

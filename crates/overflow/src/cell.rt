@@ -3,13 +3,17 @@ ghost use mathlib.Core.Path.{_≡_};
 ghost use Prim.Native.Nat.{_+_, _≤_};
 ghost use lib.ListN.{length, take, drop};
 ghost use lib.Seq.{sets};
-ghost use Rattle.overflow.specs.Stored.{Stored, writtenOutcome};
-ghost use Rattle.overflow.specs.Cells.{encodeCellInto, DecodeEffect, decodedOutcome, cellCounts, decodeCellInto};
+ghost use Rattle.refusal.specs.Effect.{before, after, effect};
+ghost use Rattle.page.specs.PageSize.{pageBytes};
+ghost use Rattle.overflow.specs.Stored.{writtenOutcome};
+ghost use Rattle.overflow.specs.Cells.{cellWith, encodeCellInto, decodedOutcome, cellCounts, decodeCellInto};
 use crate::stored::Written;
+use crate::total::max_overflow_value_size;
 use page::copy::copy_word;
 use page::little_endian::read_u64;
 use page::little_endian::write_numbers;
 use page::little_endian::write_u64;
+use page::size::PageSize;
 use refusal::Refusal;
 
 // The size of a value and how many numbers its cell holds.
@@ -24,10 +28,17 @@ pub enum Decoded {
 }
 
 // Writes a cell to the start of the buffer. After a refusal the buffer is as it was.
-pub fn encode_cell(size: u64, hash: &[u8; 32], numbers: &[u32], cell: &mut [u8]) -> Written
-    ensures { λ r. ⌜ _≡_ {A = Stored} (record { outcome = writtenOutcome r; buffer = now (cell .exit) }) (encodeCellInto (record { size = size; hash = now (hash .entry); numbers = now (numbers .entry) }) (now (cell .entry))) ⌝ }
+pub fn encode_cell(
+    page_size: PageSize,
+    size: u64,
+    hash: &[u8; 32],
+    numbers: &[u32],
+    cell: &mut [u8],
+) -> Written
+    ensures { λ r. ⌜ effect (writtenOutcome r) (after cell) ≡ encodeCellInto (pageBytes «page_size») (cellWith size (before hash) (before numbers)) (before cell) ⌝ }
 {
-    if 0x2000_0000 < size {
+    let page_bytes = page_size.bytes();
+    if (max_overflow_value_size(page_bytes) as u64) < size {
         return Written::Refused(Refusal::Size);
     }
     let count = numbers.len();
@@ -42,10 +53,10 @@ pub fn encode_cell(size: u64, hash: &[u8; 32], numbers: &[u32], cell: &mut [u8])
 }
 
 // Reads a cell: its hash goes to the array, and its size and the count of its numbers are the answer. A refusal leaves the array.
-pub fn decode_cell(cell: &[u8], hash: &mut [u8; 32]) -> Decoded
-    ensures { λ r. ⌜ _≡_ {A = DecodeEffect} (record { outcome = decodedOutcome r; hash = now (hash .exit) }) (decodeCellInto (now (cell .entry)) (now (hash .entry))) ⌝ }
+pub fn decode_cell(page_size: PageSize, cell: &[u8], hash: &mut [u8; 32]) -> Decoded
+    ensures { λ r. ⌜ effect (decodedOutcome r) (after hash) ≡ decodeCellInto (pageBytes «page_size») (before cell) (before hash) ⌝ }
 {
-    let decoded = cell_counts(cell);
+    let decoded = cell_counts(page_size.bytes(), cell);
     match decoded {
         Decoded::Cell(counts) => {
             copy_hash(cell, 8, hash, 0);
@@ -56,8 +67,8 @@ pub fn decode_cell(cell: &[u8], hash: &mut [u8; 32]) -> Decoded
 }
 
 // The size of a cell's value and how many numbers the cell holds, or refusal 12 or 10.
-pub(crate) fn cell_counts(cell: &[u8]) -> Decoded
-    ensures { λ r. ⌜ decodedOutcome r ≡ cellCounts (now (cell .entry)) ⌝ }
+pub(crate) fn cell_counts(page_size: usize, cell: &[u8]) -> Decoded
+    ensures { λ r. ⌜ decodedOutcome r ≡ cellCounts «page_size» (before cell) ⌝ }
 {
     let length = cell.len();
     if length < 44 {
@@ -67,7 +78,7 @@ pub(crate) fn cell_counts(cell: &[u8]) -> Decoded
         return Decoded::Refused(Refusal::Cell);
     }
     let size = read_u64(cell, 0);
-    if 0x2000_0000 < size {
+    if (max_overflow_value_size(page_size) as u64) < size {
         return Decoded::Refused(Refusal::Size);
     }
     Decoded::Cell(CellCounts {
@@ -79,7 +90,7 @@ pub(crate) fn cell_counts(cell: &[u8]) -> Decoded
 // Copies a hash, word by word.
 fn copy_hash(a: &[u8], from: usize, b: &mut [u8], to: usize)
     requires { ⌜ (from + 32 ≤ length (now a)) × (to + 32 ≤ length (now b)) ⌝ }
-    ensures { λ _. ⌜ now (b .exit) ≡ sets (now (b .entry)) to (take 32 (drop from (now (a .entry)))) ⌝ }
+    ensures { λ _. ⌜ after b ≡ sets (before b) to (take 32 (drop from (before a))) ⌝ }
 {
     copy_word(a, from, b, to);
     copy_word(a, from + 8, b, to + 8);

@@ -1,13 +1,16 @@
 // Deleting a value: the numbers of its pages are collected, so that they can be freed. No page is written.
 ghost use mathlib.Core.Path.{_≡_};
-ghost use Rattle.page.specs.PageSize.{IsPageSize, pageSize};
-ghost use Rattle.overflow.specs.Reading.{DeleteEffect, deleteInto, deletedOutcome};
-use crate::cell::Decoded;
-use crate::cell::cell_counts;
-use crate::total::total_needed_pages;
-use crate::walk::Walked;
+ghost use Rattle.refusal.specs.Effect.{before, after, effect};
+ghost use Rattle.page.specs.PageSize.{IsPageSize, pageBytes};
+ghost use Rattle.overflow.specs.Reading.{deleteInto, deletedOutcome};
+ghost use Rattle.overflow.specs.Steps.{Celled, deleteAdmitted};
+use crate::admit::Admitted;
+use crate::admit::ValueNeeds;
+use crate::admit::admit;
+use crate::total::max_overflow_value_size;
+use crate::walk::WalkEnd;
 use crate::walk::walk;
-use page::PAGE_SIZE;
+use page::size::PageSize;
 use refusal::Refusal;
 
 // How many numbers were found, or why it was refused.
@@ -17,38 +20,37 @@ pub enum Deleted {
 }
 
 // Collects the numbers of the pages of a cell's value. The walk ends with the first page that has value bytes: numbers stand before
-// them only.
-pub fn delete(cell: &[u8], store: &[u8], numbers: &mut [u32]) -> Deleted
-    ensures { λ r. ⌜ _≡_ {A = DeleteEffect} (record { outcome = deletedOutcome r; numbers = now (numbers .exit) }) (deleteInto pageSize (now (cell .entry)) (now (store .entry)) (now (numbers .entry))) ⌝ }
+// them only. No room is asked for the bytes, so there is enough for the largest value.
+pub fn delete(page_size: PageSize, cell: &[u8], store: &[u8], numbers: &mut [u32]) -> Deleted
+    ensures { λ r. ⌜ effect (deletedOutcome r) (after numbers) ≡ deleteInto (pageBytes «page_size») (before cell) (before store) (before numbers) ⌝ }
 {
-    delete_value(PAGE_SIZE, cell, store, numbers)
+    let page_bytes = page_size.bytes();
+    let largest = max_overflow_value_size(page_bytes);
+    match admit(page_bytes, cell, numbers.len(), largest) {
+        Admitted::Refused(r) => Deleted::Refused(r),
+        Admitted::Value(needs) => delete_pages(page_bytes, cell, store, needs, numbers),
+    }
 }
 
-// The same at any page size.
-pub fn delete_value(size: usize, cell: &[u8], store: &[u8], numbers: &mut [u32]) -> Deleted
-    requires { ⌜ IsPageSize size ⌝ }
-    ensures { λ r. ⌜ _≡_ {A = DeleteEffect} (record { outcome = deletedOutcome r; numbers = now (numbers .exit) }) (deleteInto size (now (cell .entry)) (now (store .entry)) (now (numbers .entry))) ⌝ }
+// Collects the numbers of the value of a cell that was admitted.
+fn delete_pages(
+    page_size: usize,
+    cell: &[u8],
+    store: &[u8],
+    needs: ValueNeeds,
+    numbers: &mut [u32],
+) -> Deleted
+    requires { ⌜ IsPageSize «page_size» × Celled «page_size» (now cell) needs (now numbers) ⌝ }
+    ensures { λ r. ⌜ effect (deletedOutcome r) (after numbers) ≡ deleteAdmitted «page_size» (before cell) (before store) (before numbers) ⌝ }
 {
-    match cell_counts(cell) {
-        Decoded::Refused(r) => Deleted::Refused(r),
-        Decoded::Cell(c) => {
-            let bytes = c.size;
-            if bytes == 0 {
-                return Deleted::Refused(Refusal::Size);
+    let total = needs.total;
+    match walk(page_size, store, cell, total, true, numbers) {
+        WalkEnd::Stopped(r) => Deleted::Refused(r),
+        WalkEnd::Ended(found) => {
+            if found.numbers != total {
+                return Deleted::Refused(Refusal::Numbers);
             }
-            let total = total_needed_pages(size, bytes);
-            if numbers.len() < total {
-                return Deleted::Refused(Refusal::Room);
-            }
-            match walk(size, store, cell, total, true, numbers) {
-                Walked::Stopped(r) => Deleted::Refused(r),
-                Walked::Ended(found) => {
-                    if found.numbers != total {
-                        return Deleted::Refused(Refusal::Numbers);
-                    }
-                    Deleted::Numbers(total)
-                }
-            }
+            Deleted::Numbers(total)
         }
     }
 }

@@ -1,9 +1,9 @@
 // How many pages a value takes.
 ghost use mathlib.Core.Path.{_≡_};
 ghost use Prim.Native.Nat.{_≤_, min};
-ghost use Rattle.page.specs.PageSize.{IsPageSize, pageSize};
+ghost use Rattle.page.specs.PageSize.{IsPageSize, pageBytes};
 ghost use Rattle.overflow.specs.Totals.{maxSize, rawPages, totalPages, pageTotal, totalOutcome};
-use page::PAGE_SIZE;
+use page::size::PageSize;
 use refusal::Refusal;
 
 // The largest value.
@@ -25,25 +25,33 @@ pub enum Totalled {
 }
 
 // The pages of a value, or refusal 10 for a size that no value has.
-pub fn page_total(size: u64) -> Totalled
-    ensures { λ r. ⌜ totalOutcome r ≡ pageTotal pageSize size ⌝ }
+pub fn page_total(page_size: PageSize, size: u64) -> Totalled
+    ensures { λ r. ⌜ totalOutcome r ≡ pageTotal (pageBytes «page_size») size ⌝ }
 {
+    let page_bytes = page_size.bytes();
     if size == 0 {
         return Totalled::Refused(Refusal::Size);
     }
-    if 0x2000_0000 < size {
+    if (max_overflow_value_size(page_bytes) as u64) < size {
         return Totalled::Refused(Refusal::Size);
     }
     let bytes = size as usize;
-    let total = total_needed_pages(PAGE_SIZE, bytes);
+    let total = total_needed_pages(page_bytes, bytes);
     let cell = least(total, MAX_OVERFLOW_CELL_NODE_POINTERS);
-    let spare = (PAGE_SIZE - 4) * total - bytes;
+    let spare = (page_bytes - 4) * total - bytes;
     Totalled::Pages(PageTotal { total, cell, spare })
+}
+
+// The largest value at pages of `page_size` bytes.
+pub(crate) fn max_overflow_value_size(page_size: usize) -> usize
+    ensures { λ r. ⌜ r ≡ maxSize «page_size» ⌝ }
+{
+    MAX_OVERFLOW_VALUE_SIZE
 }
 
 // How many pages of `page_size` bytes a value takes, with the numbers that the cell has no place for.
 pub fn total_needed_pages(page_size: usize, size: usize) -> usize
-    requires { ⌜ IsPageSize «page_size» × (size ≤ maxSize) ⌝ }
+    requires { ⌜ IsPageSize «page_size» × (size ≤ maxSize «page_size») ⌝ }
     ensures { λ r. ⌜ r ≡ totalPages «page_size» size ⌝ }
 {
     let raw = needed_pages(page_size, size);
@@ -62,7 +70,7 @@ pub fn total_needed_pages(page_size: usize, size: usize) -> usize
 
 // How many pages the bytes alone would take.
 fn needed_pages(page_size: usize, size: usize) -> usize
-    requires { ⌜ IsPageSize «page_size» × (size ≤ maxSize) ⌝ }
+    requires { ⌜ IsPageSize «page_size» × (size ≤ maxSize «page_size») ⌝ }
     ensures { λ r. ⌜ r ≡ rawPages «page_size» size ⌝ }
 {
     let body = page_size - 4;

@@ -10,12 +10,15 @@ pub enum Grown {
     Refused(Refusal),
 }
 
+// The largest bump: what `grow` makes of it is still a page number.
+pub const MAX_BUMP: u32 = 4294950913;
+
 // A store grows by 8,192 pages at a time; for a page that is a multiple of them, by as many more.
 pub fn grow(page: PageNumber) -> Grown
     ensures { λ r. ⌜ grownOutcome r ≡ grow (page .0) ⌝ }
 {
     let g = page.0;
-    if 4294950913 < g {
+    if MAX_BUMP < g {
         return Grown::Refused(Refusal::Limit);
     }
     Grown::To(PageNumber((g + 16382) / 8192 * 8192))

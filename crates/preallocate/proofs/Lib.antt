@@ -1,4 +1,7 @@
--- Laws about the definitions of this crate, for the proofs here and above.
+-- Laws about the plan of a finish, for the proofs here and above.
+pub mod ShapedLaws
 pub mod StepsLaws
 pub mod FirstLaws
 pub mod PlanLaws
+pub mod CasesLaws
+pub mod SomeLaws

@@ -1,9 +1,8 @@
 -- The turns in numbers: what each keeps, that the work falls, and how a turn's numbers join those of the turns after it.
 -- By cases of a turn; the products are `omega`'s. Assumes nothing.
 use Prim.Native.Nat.{ℕ, zero, suc, _+_, _-_, _*_, _^_, _≤_, _<_}
-use native.Mathlib.Nat.{mul-zero, le-mul-of-pos-right, mul-comm}
 use native.Mathlib.Omega.{arith}
-use mathlib.Core.Path.{_≡_, refl, sym, ap, subst, _∙_}
+use mathlib.Core.Path.{_≡_, refl, sym, ap, _∙_}
 use mathlib.Core.Logic.{_≢_}
 use mathlib.Core.List.{List, [], _∷_, _++_}
 use mathlib.Core.Bool.{Bool, true, false, cond}
@@ -15,19 +14,8 @@ use Rattle.laws.proofs.Tests.{and-true}
 use Rattle.laws.proofs.SetsLaws.{sets-append}
 use Rattle.free_list.specs.Shape.{FreeList}
 use Rattle.preallocate.specs.declared.turns.Plan.{Plan as Counts}
-use Rattle.preallocate.specs.Steps.{roomOf, wholeOf, lastOf, swapped, bumped, shortened, emptied, taken, named, stepped, stepNames, planned, newPages, work, Sound, Small, Short, Planned}
-
--- ---- products with the capacity that `omega` is not able to do by itself
-
-pub times-less : (c n : ℕ) → 0 < n → c * (n - 1) + c ≡ c * n
-times-less c (suc n) h = let e : suc n - 1 ≡ n = omega arith in rw e (omega arith)
-
-pub times-positive : (c n : ℕ) → 0 < c * n → 0 < n
-times-positive c zero h = let e : c * 0 ≡ 0 = mul-zero c in omega arith
-times-positive c (suc n) h = omega arith
-
-pub times-least : (c n : ℕ) → 0 < c → n ≤ c * n
-times-least c n h = subst (λ (k : ℕ). n ≤ k) (mul-comm n c) (le-mul-of-pos-right n h)
+use Rattle.preallocate.specs.Steps.{roomOf, wholeOf, lastOf, topSwapped, bumpTaken, entryTaken, lastTaken, taken, named, stepped, stepNames, planned, newPages, work, Packed, Small, Short, Due, Took, Planned}
+use Rattle.preallocate.proofs.ShapedLaws.{times-less, times-positive, times-least}
 
 -- ---- the cases of a turn
 
@@ -38,36 +26,36 @@ whole-facts c p e =
 
 -- what a turn leaves, both its counts and its numbers, is shown in each case
 pub taken-cases : (c : ℕ) (l : FreeList) (p : Counts) (P : Counts → List ℕ → Type 0)
-    → (p .entries ≡ 0 → P (bumped p) (p .bump ∷ []))
-    → (0 < p .entries → p .entries - 1 ≡ c * (p .pages - 1) → P (emptied l p) (getD (l .entries) (p .entries - 1) 0 ∷ p .top ∷ []))
-    → (0 < p .entries → p .entries - 1 ≢ c * (p .pages - 1) → P (shortened p) (getD (l .entries) (p .entries - 1) 0 ∷ []))
+    → (p .entries ≡ 0 → P (bumpTaken p) (p .bump ∷ []))
+    → (0 < p .entries → p .entries - 1 ≡ c * (p .pages - 1) → P (lastTaken l p) (getD (l .entries) (p .entries - 1) 0 ∷ p .top ∷ []))
+    → (0 < p .entries → p .entries - 1 ≢ c * (p .pages - 1) → P (entryTaken p) (getD (l .entries) (p .entries - 1) 0 ∷ []))
     → P (taken c l p) (named c l p)
 unfolding taken named
 taken-cases c l p P b e o = go (leb 1 (p .entries)) (lastOf c p) refl refl
   where
     go : (s y : Bool) → leb 1 (p .entries) ≡ s → lastOf c p ≡ y
-        → P (cond s (cond y (emptied l p) (shortened p)) (bumped p)) (cond s (cond y (getD (l .entries) (p .entries - 1) 0 ∷ p .top ∷ []) (getD (l .entries) (p .entries - 1) 0 ∷ [])) (p .bump ∷ []))
+        → P (cond s (cond y (lastTaken l p) (entryTaken p)) (bumpTaken p)) (cond s (cond y (getD (l .entries) (p .entries - 1) 0 ∷ p .top ∷ []) (getD (l .entries) (p .entries - 1) 0 ∷ [])) (p .bump ∷ []))
     go true true h y = e (leb-true 1 (p .entries) h) (eqb-true _ _ y)
     go true false h y = o (leb-true 1 (p .entries) h) (eqb-false _ _ y)
     go false true h y = b (omega (arith, leb-false 1 (p .entries) h))
     go false false h y = b (omega (arith, leb-false 1 (p .entries) h))
 
 pub step-cases : (c : ℕ) (l : FreeList) (p : Counts) (P : Counts → List ℕ → Type 0)
-    → (0 < p .pages → p .entries ≡ c * p .pages → P (swapped l p) [])
-    → (p .entries ≡ 0 → P (bumped p) (p .bump ∷ []))
-    → (0 < p .entries → p .entries - 1 ≡ c * (p .pages - 1) → P (emptied l p) (getD (l .entries) (p .entries - 1) 0 ∷ p .top ∷ []))
-    → (0 < p .entries → p .entries - 1 ≢ c * (p .pages - 1) → P (shortened p) (getD (l .entries) (p .entries - 1) 0 ∷ []))
+    → (0 < p .pages → p .entries ≡ c * p .pages → P (topSwapped l p) [])
+    → (p .entries ≡ 0 → P (bumpTaken p) (p .bump ∷ []))
+    → (0 < p .entries → p .entries - 1 ≡ c * (p .pages - 1) → P (lastTaken l p) (getD (l .entries) (p .entries - 1) 0 ∷ p .top ∷ []))
+    → (0 < p .entries → p .entries - 1 ≢ c * (p .pages - 1) → P (entryTaken p) (getD (l .entries) (p .entries - 1) 0 ∷ []))
     → P (stepped c l p) (stepNames c l p)
 unfolding stepped stepNames
 step-cases c l p P s b e o = go (wholeOf c p) refl
   where
-    go : (x : Bool) → wholeOf c p ≡ x → P (cond x (swapped l p) (taken c l p)) (cond x [] (named c l p))
+    go : (x : Bool) → wholeOf c p ≡ x → P (cond x (topSwapped l p) (taken c l p)) (cond x [] (named c l p))
     go true h = let w = whole-facts c p h in s (w .0) (w .1)
     go false h = taken-cases c l p P b e o
 
 -- ---- what a turn keeps
 
-module _ {c : ℕ} {l : FreeList} {p : Counts} (sound : Sound c l p) where
+module _ {c : ℕ} {l : FreeList} {p : Counts} (packed : Packed c l p) where
   pub pages-positive : 0 < p .entries → 0 < p .pages
   pages-positive h = times-positive c (p .pages) (omega arith)
 
@@ -78,26 +66,26 @@ module _ {c : ℕ} {l : FreeList} {p : Counts} (sound : Sound c l p) where
   fewer : 0 < p .entries → c * (p .pages - 1) + c ≡ c * p .pages
   fewer h = times-less c (p .pages) (pages-positive h)
 
-  sound-swapped : 0 < p .pages → p .entries ≡ c * p .pages → Sound c l (swapped l p)
-  sound-swapped h w = let f = times-less c (p .pages) h in omega arith
+  packed-swapped : 0 < p .pages → p .entries ≡ c * p .pages → Packed c l (topSwapped l p)
+  packed-swapped h w = let f = times-less c (p .pages) h in omega arith
 
-  sound-emptied : 0 < p .entries → p .entries - 1 ≡ c * (p .pages - 1) → Sound c l (emptied l p)
-  sound-emptied h e = let f = fewer h in omega arith
+  packed-emptied : 0 < p .entries → p .entries - 1 ≡ c * (p .pages - 1) → Packed c l (lastTaken l p)
+  packed-emptied h e = let f = fewer h in omega arith
 
-  sound-shortened : 0 < p .entries → p .entries - 1 ≢ c * (p .pages - 1) → Sound c l (shortened p)
-  sound-shortened h e = let f = fewer h in omega arith
+  packed-shortened : 0 < p .entries → p .entries - 1 ≢ c * (p .pages - 1) → Packed c l (entryTaken p)
+  packed-shortened h e = let f = fewer h in omega arith
 
-  pub sound-taken : Sound c l (taken c l p)
-  sound-taken = taken-cases c l p (λ q _. Sound c l q) (λ h. omega arith) sound-emptied sound-shortened
+  pub packed-taken : Packed c l (taken c l p)
+  packed-taken = taken-cases c l p (λ q _. Packed c l q) (λ h. omega arith) packed-emptied packed-shortened
 
-  pub sound-stepped : Sound c l (stepped c l p)
-  sound-stepped = step-cases c l p (λ q _. Sound c l q) sound-swapped (λ h. omega arith) sound-emptied sound-shortened
+  pub packed-stepped : Packed c l (stepped c l p)
+  packed-stepped = step-cases c l p (λ q _. Packed c l q) packed-swapped (λ h. omega arith) packed-emptied packed-shortened
 
   -- the room with one page less and two more
   room-emptied : 0 < p .entries → c * (p .pages - 1 + (p .fresh + 2)) ≡ c * (p .pages + p .fresh) + c
   room-emptied h = let f = fewer h in omega arith
 
-  falls-swapped : 0 < p .pages → p .entries ≡ c * p .pages → work c (swapped l p) < work c p
+  falls-swapped : 0 < p .pages → p .entries ≡ c * p .pages → work c (topSwapped l p) < work c p
   falls-swapped h w = let f = times-less c (p .pages) h in omega arith
 
   pub falls-taken : Short c p → work c (taken c l p) < work c p
@@ -133,7 +121,7 @@ module _ {c : ℕ} {l : FreeList} {p : Counts} (sound : Sound c l p) where
     pub fresh-small : p .fresh + 2 < 2 ^ 64
     fresh-small = omega (arith, times-least c (p .pages + p .fresh) (omega arith))
 
-    pub small-swapped : 0 < p .pages → p .entries ≡ c * p .pages → Small c (swapped l p)
+    pub small-swapped : 0 < p .pages → p .entries ≡ c * p .pages → Small c (topSwapped l p)
     small-swapped h w = let f = times-less c (p .pages) h in omega arith
 
     pub small-taken : Small c (taken c l p)
@@ -187,45 +175,43 @@ bump-rises c l (suc k) p = go (ltb (roomOf c p) (p .pushed)) refl (bump-rises c 
 pub done : (c : ℕ) (l : FreeList) (p : Counts) (before : List ℕ) → p .pushed ≤ roomOf c p → Planned c l p before p before
 unfolding Planned
 done c l p before h k e =
-    (sym (planned-enough c l k p h), λ b. ap (λ (xs : List ℕ). sets before (p .fresh) xs) (sym (new-enough c l k p h)))
+    record { counted = sym (planned-enough c l k p h); named = λ b. ap (λ (xs : List ℕ). sets before (p .fresh) xs) (sym (new-enough c l k p h)) }
 
-module _ {c : ℕ} {l : FreeList} {p : Counts} (sound : Sound c l p) (s : Short c p) where
+module _ {c : ℕ} {l : FreeList} {p : Counts} (packed : Packed c l p) (s : Short c p) where
   -- a swap, and what is done after it
   pub then-swapped : (before : List ℕ) (r : Counts) (after : List ℕ) → wholeOf c p ≡ true
-      → Planned c l (swapped l p) before r after → Planned c l p before r after
+      → Planned c l (topSwapped l p) before r after → Planned c l p before r after
   unfolding Planned stepped stepNames
   then-swapped before r after w rest zero e = absurd (omega arith)
   then-swapped before r after w rest (suc k) e =
       let f = whole-facts c p w in
-      let d = falls-swapped sound (f .0) (f .1) in
+      let d = falls-swapped packed (f .0) (f .1) in
       rw (planned-more c l k p s, new-more c l k p s, w) (rest k (omega arith))
 
   -- a page taken, and what is done after it
-  then-taken : (before mid : List ℕ) (r : Counts) (after : List ℕ) → wholeOf c p ≡ false
-      → (taken c l p .bump ≤ 2 ^ 32 → mid ≡ sets before (p .fresh) (named c l p))
-      → Planned c l (taken c l p) mid r after → Planned c l p before r after
+  then-taken : (before mid : List ℕ) (q r : Counts) (after : List ℕ) → wholeOf c p ≡ false → Took c l p before q mid
+      → Planned c l q mid r after → Planned c l p before r after
   unfolding Planned stepped stepNames
-  then-taken before mid r after w m rest zero e = absurd (omega arith)
-  then-taken before mid r after w m rest (suc k) e =
-      let d = falls-taken sound s in
-      let q = rest k (omega arith) in
-      let up : taken c l p .bump ≤ r .bump = rw (q .0) (bump-rises c l k (taken c l p)) in
+  then-taken before mid q r after w t rest zero e = absurd (omega arith)
+  then-taken before mid q r after w t rest (suc k) e =
+      let d = falls-taken packed s in
+      let o = (rw (t .counted) at rest) k (omega arith) in
+      let up : taken c l p .bump ≤ r .bump = rw (o .counted) (bump-rises c l k (taken c l p)) in
       rw (planned-more c l k p s, new-more c l k p s, w) (
-        q .0,
-        λ b. q .1 b ∙ rw (m (omega arith), sets-append before (p .fresh) (named c l p) (newPages c l k (taken c l p)), ← fresh-taken c l p),
+      record {
+        counted = o .counted;
+        named = λ b. o .named b ∙ rw (t .named (omega (arith, ap (λ (x : Counts). x .bump) (t .counted))), sets-append before (p .fresh) (named c l p) (newPages c l k (taken c l p)), ← fresh-taken c l p);
+      }
       )
 
   -- after a swap less work is left, no whole page is at the top, and the room is as short as before
-  pub swapped-ready : Small c p → wholeOf c p ≡ true
-      → (work c (swapped l p) < work c p) × (Sound c l (swapped l p) × Small c (swapped l p) × Short c (swapped l p) × (wholeOf c (swapped l p) ≡ false))
+  pub swapped-ready : Small c p → wholeOf c p ≡ true → (work c (topSwapped l p) < work c p) × (Due c l (topSwapped l p) × (wholeOf c (topSwapped l p) ≡ false))
   swapped-ready small w =
       let f = whole-facts c p w in
       let n = times-less c (p .pages) (f .0) in (
-        falls-swapped sound (f .0) (f .1),
+        falls-swapped packed (f .0) (f .1),
         (
-          sound-swapped sound (f .0) (f .1),
-          small-swapped sound small s (f .0) (f .1),
-          omega arith,
+          record { packed = packed-swapped packed (f .0) (f .1); small = small-swapped packed small s (f .0) (f .1); short = omega arith },
           rw (le-leb 1 (p .pages) (f .0), ne-eqb (p .entries - 1) (c * p .pages) (omega arith)),
         ),
       )
@@ -233,32 +219,31 @@ module _ {c : ℕ} {l : FreeList} {p : Counts} (sound : Sound c l p) (s : Short 
 -- ---- a part of a run that takes pages only, from the counts q₀ and their buffer to the counts q and their own
 
 pub record Along (c : ℕ) (l : FreeList) (q₀ : Counts) (out₀ : List ℕ) (q : Counts) (out : List ℕ) : Type 0 where
-  pub sound : Sound c l q
+  pub packed : Packed c l q
   pub small : Small c q
   pub less : work c q ≤ work c q₀
   pub same : length out ≡ length out₀
   pub planned : (r : Counts) (after : List ℕ) → Planned c l q out r after → Planned c l q₀ out₀ r after
 
-pub along-start : {c : ℕ} {l : FreeList} {q : Counts} {out : List ℕ} → Sound c l q → Small c q → Along c l q out q out
-along-start sound small = record { sound = sound; small = small; less = omega arith; same = refl; planned = λ r after h. h }
+pub along-start : {c : ℕ} {l : FreeList} {q : Counts} {out : List ℕ} → Packed c l q → Small c q → Along c l q out q out
+along-start packed small = record { packed = packed; small = small; less = omega arith; same = refl; planned = λ r after h. h }
 
 pub along-more : {c : ℕ} {l : FreeList} {q₀ q r : Counts} {out₀ out mid : List ℕ} → Along c l q₀ out₀ q out → Short c q → wholeOf c q ≡ false
-    → r ≡ taken c l q → (r .bump ≤ 2 ^ 32 → mid ≡ sets out (q .fresh) (named c l q)) → length mid ≡ length out
-    → (work c r < work c q) × Along c l q₀ out₀ r mid
-along-more {c} {l} {q₀} {q} {r} {out₀} {out} {mid} a s w e m n =
-    let falls : work c r < work c q = rw e (falls-taken (a .sound) s) in (
+    → Took c l q out r mid → length mid ≡ length out → (work c r < work c q) × Along c l q₀ out₀ r mid
+along-more {c} {l} {q₀} {q} {r} {out₀} {out} {mid} a s w t n =
+    let e = t .counted in
+    let falls : work c r < work c q = rw e (falls-taken (a .packed) s) in (
       falls,
       record {
-        sound = rw e (sound-taken (a .sound));
-        small = rw e (small-taken (a .sound) (a .small) s);
+        packed = rw e (packed-taken (a .packed));
+        small = rw e (small-taken (a .packed) (a .small) s);
         less = omega (arith, a .less);
         same = n ∙ a .same;
-        planned = λ x after h. a .planned x after (then-taken (a .sound) s out mid x after w (rw e at m) (rw e at h));
+        planned = λ x after h. a .planned x after (then-taken (a .packed) s out mid r x after w t h);
       },
     )
 
 -- the first page that is taken begins such a part
-pub along-first : {c : ℕ} {l : FreeList} {p r : Counts} {out mid : List ℕ} → Sound c l p × Small c p × Short c p × (wholeOf c p ≡ false)
-    → (r ≡ taken c l p) × (r .bump ≤ 2 ^ 32 → mid ≡ sets out (p .fresh) (named c l p)) → length mid ≡ length out
+pub along-first : {c : ℕ} {l : FreeList} {p r : Counts} {out mid : List ℕ} → Due c l p → wholeOf c p ≡ false → Took c l p out r mid → length mid ≡ length out
     → (work c r < work c p) × Along c l p out r mid
-along-first a e n = along-more (along-start (a .0) (a .1)) (a .2) (a .3) (e .0) (e .1) n
+along-first d w t n = along-more (along-start (d .packed) (d .small)) (d .short) w t n

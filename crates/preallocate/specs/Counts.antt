@@ -3,7 +3,9 @@ use Prim.Native.Nat.{ℕ, _^_, _≤_}
 use mathlib.Core.Path.{_≡_}
 use mathlib.Core.Bool.{true}
 use mathlib.Core.List.{List}
-use lib.ListN.{length}
+use lib.ListN.{length, take}
+use lib.Seq.{sets}
+use Rattle.page.specs.PageSize.{IsPageSize, capacity}
 use Rattle.free_list.specs.Shape.{FreeList, isShape}
 use Rattle.preallocate.specs.Plan.{Plan}
 use Rattle.preallocate.specs.declared.turns.Plan.{Plan as Counts}
@@ -13,16 +15,52 @@ abbrev pub counts : Plan → Counts
 counts t =
     record { pages = t .kept; entries = t .left; pushed = length (t .pushed); fresh = length (t .fresh); bump = t .bump; top = t .top }
 
--- a list from its two tables
-abbrev pub listed : List ℕ → List ℕ → FreeList
-listed pages entries = record { pages = pages; entries = entries }
+-- a list from its two tables, whole or their first P and L places
+abbrev pub wholeList : List ℕ → List ℕ → FreeList
+wholeList pages entries = record { pages = pages; entries = entries }
 
--- the first P and L places of the tables are a list with c entries to a page, of which `popped` may be handed out
-pub record Planable (c : ℕ) (pages entries : List ℕ) (P L popped bump : ℕ) : Type 0 where
-  pub capacity : 2 ≤ c
-  pub capacity-fits : c ≤ 16384
-  pub shape : isShape c P L ≡ true
+abbrev pub tableList : List ℕ → List ℕ → ℕ → ℕ → FreeList
+tableList pages entries P L = wholeList (take P pages) (take L entries)
+
+-- ---- limits within which no sum of a plan passes 64 bits
+
+-- entries to a list page: no page holds as many
+abbrev pub mostEntries : ℕ
+mostEntries = 16384
+
+-- the bump that a plan starts from: one past 32 bits is refused only after the plan
+abbrev pub mostBump : ℕ
+mostBump = 2 ^ 40
+
+-- a bump up to which the new pages' numbers have 32 bits
+abbrev pub wideBump : ℕ
+wideBump = 2 ^ 32
+
+-- ---- contracts
+
+-- a list with c entries to a page, of which so many may be popped
+pub record Poppable (c : ℕ) (l : FreeList) (popped bump : ℕ) : Type 0 where
+  pub two-entries : 2 ≤ c
+  pub capacity-fits : c ≤ mostEntries
+  pub shape : isShape c (length (l .pages)) (length (l .entries)) ≡ true
+  pub pops : popped ≤ length (l .entries)
+  pub bumps : bump ≤ mostBump
+
+-- the first P and L places of the tables are such a list
+pub record Planable (s : ℕ) (pages entries : List ℕ) (P L popped bump : ℕ) : Type 0 where
+  pub size : IsPageSize s
+  pub shape : isShape (capacity s) P L ≡ true
   pub pages-fit : P ≤ length pages
   pub entries-fit : L ≤ length entries
   pub pops : popped ≤ L
-  pub bumps : bump ≤ 2 ^ 40
+  pub bumps : bump ≤ mostBump
+
+-- the code has come to these counts, and put these names of new pages into `out` from place `at` on. They have 32 bits, so they are
+-- spoken of only where the bump stays within them
+pub record Told (q : Counts) (at : ℕ) (names before : List ℕ) (r : Counts) (after : List ℕ) : Type 0 where
+  pub counted : r ≡ q
+  pub named : r .bump ≤ wideBump → after ≡ sets before at names
+
+-- it has made a plan
+abbrev pub Makes : Plan → List ℕ → Counts → List ℕ → Type 0
+Makes t before r after = Told (counts t) 0 (t .fresh) before r after

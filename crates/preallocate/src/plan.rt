@@ -1,22 +1,24 @@
 // The plan of a finish: the first number popped, then turns until there is room for the push list.
 ghost use mathlib.Core.Path.{_≡_};
 ghost use mathlib.Core.Bool.{_&&_};
-ghost use Prim.Native.Nat.{_*_, _^_, _≤_, _<_};
+ghost use Prim.Native.Nat.{_*_, _-_, _^_, _≤_, _<_};
 ghost use lib.Dec.{eqb};
-ghost use lib.ListN.{length, take};
-ghost use lib.Seq.{sets};
+ghost use lib.ListN.{length};
+ghost use Rattle.refusal.specs.Effect.{before, after};
+ghost use Rattle.page.specs.PageSize.{capacity};
 ghost use Rattle.free_list.specs.Shape.{isFragmented};
 ghost use Rattle.preallocate.specs.Plan.{pagesAfter, firstPlan, planOf};
-ghost use Rattle.preallocate.specs.Counts.{counts, listed, Planable};
+ghost use Rattle.preallocate.specs.Counts.{wholeList, tableList, mostEntries, Poppable, Planable, Makes};
 pub use crate::turns::Plan;
 use crate::turns::make_room;
 use crate::turns::put;
 use crate::turns::under;
+use free_list::list_page::max_pns_per_page;
 
 // How many pages of a list of so many pages and entries are left after `popped` pops.
 fn pages_after(c: usize, pages: &[u32], entries: &[u32], popped: usize) -> usize
-    requires { ⌜ (1 ≤ c) × (c ≤ 16384) × (popped ≤ length (now entries)) ⌝ }
-    ensures { λ r. ⌜ r ≡ pagesAfter c (listed (now (pages .entry)) (now (entries .entry))) popped ⌝ }
+    requires { ⌜ (1 ≤ c) × (c ≤ mostEntries) × (popped ≤ length (now entries)) ⌝ }
+    ensures { λ r. ⌜ r ≡ pagesAfter c (wholeList (before pages) (before entries)) popped ⌝ }
 {
     if popped == 0 {
         return pages.len();
@@ -24,12 +26,20 @@ fn pages_after(c: usize, pages: &[u32], entries: &[u32], popped: usize) -> usize
     (entries.len() - popped + (c - 1)) / c
 }
 
-// Whether nothing is popped from a list of p pages and n entries that has a page more than it needs.
-fn mends(c: usize, p: usize, n: usize, popped: usize) -> bool
-    requires { ⌜ c * p < 2 ^ 64 ⌝ }
-    ensures { λ r. ⌜ r ≡ (eqb popped 0 && isFragmented c p n) ⌝ }
+// Whether the list of so many pages and entries is fragmented.
+pub fn is_fragmented(c: usize, pages: usize, entries: usize) -> bool
+    requires { ⌜ c * (pages - 1) < 2 ^ 64 ⌝ }
+    ensures { λ r. ⌜ r ≡ isFragmented c pages entries ⌝ }
 {
-    popped == 0 && (2 <= p && n == c * (p - 1))
+    2 <= pages && entries == c * (pages - 1)
+}
+
+// Whether the list is fragmented and none of it was popped: then its head is emptied into the page under it.
+pub fn mends(c: usize, pages: usize, entries: usize, popped: usize) -> bool
+    requires { ⌜ c * (pages - 1) < 2 ^ 64 ⌝ }
+    ensures { λ r. ⌜ r ≡ eqb popped 0 && isFragmented c pages entries ⌝ }
+{
+    popped == 0 && is_fragmented(c, pages, entries)
 }
 
 // A plan with these counts.
@@ -56,9 +66,8 @@ fn first_plan(
     bump: usize,
     out: &mut [u32],
 ) -> Plan
-    requires { ⌜ Planable c (now pages) (now entries) (length (now pages)) (length (now entries)) popped bump ⌝ }
-    ensures plan { λ r. ⌜ r ≡ counts (firstPlan c (listed (now (pages .entry)) (now (entries .entry))) popped (now (freed .entry)) bump) ⌝ }
-    ensures out { λ _. ⌜ now (out .exit) ≡ sets (now (out .entry)) 0 (firstPlan c (listed (now (pages .entry)) (now (entries .entry))) popped (now (freed .entry)) bump .fresh) ⌝ }
+    requires { ⌜ Poppable c (wholeList (now pages) (now entries)) popped bump ⌝ }
+    ensures { λ r. ⌜ Makes (firstPlan c (wholeList (before pages) (before entries)) popped (before freed) bump) (before out) r (after out) ⌝ }
 {
     let kept = pages_after(c, pages, entries, popped);
     let pushed = freed.len() + (pages.len() - kept);
@@ -82,7 +91,7 @@ fn first_plan(
 // `popped` of its entries were handed out, and `freed` are the numbers freed. The new pages' numbers go to `out` as far as it
 // reaches: with an empty slice this only counts.
 pub fn plan(
-    c: usize,
+    page_size: usize,
     pages: &[u32],
     entries: &[u32],
     p: usize,
@@ -92,10 +101,10 @@ pub fn plan(
     bump: usize,
     out: &mut [u32],
 ) -> Plan
-    requires { ⌜ Planable c (now pages) (now entries) p l popped bump ⌝ }
-    ensures plan { λ r. ⌜ r ≡ counts (planOf c (listed (take p (now (pages .entry))) (take l (now (entries .entry)))) popped (now (freed .entry)) bump) ⌝ }
-    ensures out { λ r. ⌜ (r .bump ≤ 2 ^ 32 → now (out .exit) ≡ sets (now (out .entry)) 0 (planOf c (listed (take p (now (pages .entry))) (take l (now (entries .entry)))) popped (now (freed .entry)) bump .fresh)) ⌝ }
+    requires { ⌜ Planable «page_size» (now pages) (now entries) p l popped bump ⌝ }
+    ensures { λ r. ⌜ Makes (planOf (capacity «page_size») (tableList (before pages) (before entries) p l) popped (before freed) bump) (before out) r (after out) ⌝ }
 {
+    let c = max_pns_per_page(page_size);
     let pages = &pages[..p];
     let entries = &entries[..l];
     let first = first_plan(c, pages, entries, popped, freed, bump, out);

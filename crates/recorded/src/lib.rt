@@ -17,6 +17,7 @@ use values::replay_write_page;
 
 mod lists;
 mod lookups;
+mod pages;
 mod totals;
 mod values;
 

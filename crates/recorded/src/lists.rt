@@ -1,4 +1,6 @@
 // Reading a list, handing out and finishing, at the page size that comes first in each line.
+use crate::pages::entries_agree;
+use crate::pages::words;
 use line::numbers::FILLER;
 use line::numbers::after_byte_array;
 use line::numbers::after_bytes;
@@ -17,6 +19,9 @@ use line::numbers::plus;
 use line::numbers::taken_bytes;
 use line::numbers::taken_words;
 use line::numbers::word;
+use lookup::lookup::lookup;
+use page::number::PageNumber;
+use page::size::PageSize;
 use sized::sized_finish;
 use sized::sized_hand_out;
 use sized::sized_read_list;
@@ -48,13 +53,25 @@ fn read_list_with(line: &[u64], store: &[u8], pages: &mut [u32], entries: &mut [
     );
     let mut out = [FILLER; 8];
     let status = sized_read_list(
-        number(line, 1),
+        words(number(line, 1)),
         store,
         word(line, 2),
         pages,
         entries,
         &mut out,
     );
+    if status == 0 && word(line, 2) != 0 {
+        let page = lookup(
+            PageSize(words(number(line, 1)) as usize),
+            &[],
+            &[],
+            store,
+            PageNumber(word(line, 2)),
+        );
+        if !entries_agree(page, entries, out[1] as usize) {
+            return false;
+        }
+    }
     let behind_out = after_reply(line, behind_lengths, status, &out);
     let behind_pages = after_words(line, behind_out, pages);
     after_words(line, behind_pages, entries) == line.len()
@@ -76,7 +93,7 @@ fn hand_out_with(line: &[u64], pages: &[u32], entries: &[u32]) -> bool {
     let save = opened_by(line);
     let mut out = [FILLER; 8];
     let status = sized_hand_out(
-        save.size,
+        words(save.size),
         save.bump,
         save.length,
         save.pages,
@@ -149,7 +166,7 @@ fn finish_from(
     let save = opened_by(line);
     let mut out = [FILLER; 8];
     let status = sized_finish(
-        save.size,
+        words(save.size),
         save.bump,
         save.length,
         save.pages,

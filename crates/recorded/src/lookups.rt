@@ -1,4 +1,6 @@
 // Page lookup: among the pending pages of a save, and in the store.
+use crate::pages::part_agrees;
+use crate::pages::words;
 use line::numbers::FILLER;
 use line::numbers::after_byte_array;
 use line::numbers::after_reply;
@@ -11,6 +13,9 @@ use line::numbers::number;
 use line::numbers::taken_bytes;
 use line::numbers::taken_words;
 use line::numbers::word;
+use lookup::lookup::lookup;
+use page::number::PageNumber;
+use page::size::PageSize;
 use sized::sized_lookup;
 
 // page size, page, numbers[] pending[] store[] | status out
@@ -31,18 +36,47 @@ pub fn replay_lookup(line: &[u64]) -> bool {
     )
 }
 
-fn lookup_with(line: &[u64], numbers: &[u32], pending: &[u8], store: &[u8]) -> bool {
+fn lookup_with<'a>(line: &[u64], numbers: &[u32], pending: &'a [u8], store: &'a [u8]) -> bool {
     let behind_numbers = after_word_array(line, after_word(line, 2), numbers);
     let behind_pending = after_byte_array(line, behind_numbers, pending);
     let behind_store = after_byte_array(line, behind_pending, store);
     let mut out = [FILLER; 8];
     let status = sized_lookup(
-        number(line, 1),
+        words(number(line, 1)),
         numbers,
         pending,
         store,
         word(line, 2),
         &mut out,
     );
+    if !is_part(line, numbers, pending, store, &out) {
+        return false;
+    }
     after_reply(line, behind_store, status, &out) == line.len()
+}
+
+// Whether the page, as a part of one of the two slices, stands where the answer says; after a refusal it is empty.
+fn is_part<'a>(
+    line: &[u64],
+    numbers: &[u32],
+    pending: &'a [u8],
+    store: &'a [u8],
+    out: &[u64; 8],
+) -> bool {
+    let page_size = PageSize(words(number(line, 1)) as usize);
+    let page = lookup(
+        page_size,
+        numbers,
+        pending,
+        store,
+        PageNumber(word(line, 2)),
+    );
+    let at = out[1] as usize;
+    if page.len() == 0 {
+        return true;
+    }
+    if out[0] == 0 {
+        return part_agrees(page, pending, at);
+    }
+    part_agrees(page, store, at)
 }

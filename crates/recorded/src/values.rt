@@ -1,4 +1,6 @@
 // Values: writing their pages and cells, reading and deleting them.
+use crate::pages::numbers_agree;
+use crate::pages::words;
 use line::numbers::BYTE_FILLER;
 use line::numbers::FILLER;
 use line::numbers::after_byte_array;
@@ -19,8 +21,11 @@ use line::numbers::plus;
 use line::numbers::taken_bytes;
 use line::numbers::taken_hash;
 use line::numbers::taken_words;
+use lookup::lookup::lookup;
 use mopsienna::values::mopsienna_decode_cell;
 use mopsienna::values::mopsienna_encode_cell;
+use page::number::PageNumber;
+use page::size::PageSize;
 use sized::sized_delete_value;
 use sized::sized_read_value;
 use sized::sized_write_value_page;
@@ -47,7 +52,13 @@ fn write_page_with(line: &[u64], value: &[u8], numbers: &[u32], page: &mut [u8])
     let behind_value = after_byte_array(line, 3, value);
     let behind_numbers = after_word_array(line, behind_value, numbers);
     let behind_length = after_number(line, behind_numbers, page.len() as u64);
-    let status = sized_write_value_page(number(line, 1), value, numbers, number(line, 2), page);
+    let status = sized_write_value_page(
+        words(number(line, 1)),
+        value,
+        numbers,
+        number(line, 2),
+        page,
+    );
     let behind_status = after_number(line, behind_length, status as u64);
     after_bytes(line, behind_status, page) == line.len()
 }
@@ -126,10 +137,40 @@ fn read_value_with(
         value.len() as u64,
     );
     let mut out = [FILLER; 8];
-    let status = sized_read_value(number(line, 1), cell, store, numbers, value, &mut out);
+    let status = sized_read_value(
+        words(number(line, 1)),
+        cell,
+        store,
+        numbers,
+        value,
+        &mut out,
+    );
+    if status == 0 {
+        if !first_agrees(number(line, 1), cell, store, numbers) {
+            return false;
+        }
+    }
     let behind_out = after_reply(line, behind_lengths, status, &out);
     let behind_numbers = after_words(line, behind_out, numbers);
     after_bytes(line, behind_numbers, value) == line.len()
+}
+
+// Whether the numbers on the first page of a value stand in the table behind those of its cell.
+fn first_agrees(bytes: u64, cell: &[u8], store: &[u8], numbers: &[u32]) -> bool {
+    if cell.len() < 44 {
+        return false;
+    }
+    if numbers.len() == 0 {
+        return false;
+    }
+    let page = lookup(
+        PageSize(words(bytes) as usize),
+        &[],
+        &[],
+        store,
+        PageNumber(numbers[0]),
+    );
+    numbers_agree(page, numbers, (cell.len() - 40) / 4)
 }
 
 // page size, cell[] store[], the length of the numbers | status out numbers
@@ -155,7 +196,7 @@ fn delete_value_with(line: &[u64], cell: &[u8], store: &[u8], numbers: &mut [u32
     let behind_store = after_byte_array(line, behind_cell, store);
     let behind_length = after_number(line, behind_store, numbers.len() as u64);
     let mut out = [FILLER; 8];
-    let status = sized_delete_value(number(line, 1), cell, store, numbers, &mut out);
+    let status = sized_delete_value(words(number(line, 1)), cell, store, numbers, &mut out);
     let behind_out = after_reply(line, behind_length, status, &out);
     after_words(line, behind_out, numbers) == line.len()
 }

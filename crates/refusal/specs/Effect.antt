@@ -18,6 +18,10 @@ before x = now (x .entry)
 abbrev pub after : Lent → List ℕ
 after x = now (x .exit)
 
+-- where nothing is lent
+abbrev pub nothing : Unit {0}
+nothing = tt
+
 -- ---- what an operation leaves
 
 pub record Effect (A B : Type 0) : Type 0 where
@@ -52,3 +56,15 @@ told values (refused number vs) = vs
 -- the values stand in `out` from place 0 on, whose other places stay
 abbrev pub called : {A B : Type 0} → (A → List ℕ) → List ℕ → Effect A B → Called B
 called values out e = record { status = status (e .outcome); out = sets out 0 (told values (e .outcome)); lent = e .lent }
+
+-- what such a function has left, as its contract sees it
+abbrev pub left : {B : Type 0} → ℕ → Lent → B → Called B
+left r out lent = record { status = r; out = after out; lent = lent }
+
+-- the same of a function that has no `out`
+pub record Returned (B : Type 0) : Type 0 where
+  pub status : ℕ
+  pub lent : B
+
+abbrev pub returned : {A B : Type 0} → Effect A B → Returned B
+returned e = record { status = status (e .outcome); lent = e .lent }

@@ -1,5 +1,5 @@
 -- The calls of a save: every number that is handed out is an entry of the first list or lies past its bump, and the save stays one of
--- the first list until a finish succeeds.
+-- the first list until a finish succeeds. By induction over the calls.
 use Prim.Native.Nat.{ℕ, suc, _+_, _-_, _<_, _≤_}
 use mathlib.Core.Path.{_≡_, refl, sym, _∙_, ap, subst}
 use mathlib.Core.Logic.{_⊎_, inl, inr}
@@ -15,37 +15,27 @@ use Rattle.laws.proofs.Tests.{cond-cases}
 use Rattle.refusal.proofs.OutcomeLaws.{unanswer, check-answer}
 use Rattle.page.specs.Growth.{maxBump}
 use Rattle.free_list.specs.Shape.{FreeList}
-use Rattle.allocator.specs.OpenSave.{Save, listOf, bumped, stateFits, nextNumber, nextSave, HandedOut, handOut}
-use Rattle.allocator.specs.Finish.{Finished, finish}
-use Rattle.allocator.proofs.FreshLaws.{Between, between-mem}
+use Rattle.allocator.specs.OpenSave.{Save, bumped, stateFits, nextNumber, nextSave, HandedOut, handOut}
+use Rattle.finisher.specs.Finish.{Finished, finish}
+use Rattle.finisher.proofs.FreshLaws.{Between, between-mem}
 use Rattle.rollback.specs.Calls.{Call, handOutCall, finishCall, Run, afterHandOut, afterFinish, run}
-use Rattle.rollback.specs.Rollback.{State, Opened}
+use Rattle.rollback.specs.Rollback.{SaveOf}
 
--- a number that a save may use: an entry of the first list, or one past its bump
-abbrev pub Fresh : FreeList → ℕ → ℕ → Type 0
-Fresh l bump n = List·Memᴰ n (l .entries) ⊎ (bump ≤ n)
+-- a number that is free at the start of the save: an entry of the first list, or one past its bump
+abbrev pub Free : FreeList → ℕ → ℕ → Type 0
+Free l bump n = List·Memᴰ n (l .entries) ⊎ (bump ≤ n)
 
 -- the numbers that a save with a count of h was handed out: the last entries, and past the list the numbers from the bump on
 abbrev pub Handed : FreeList → ℕ → ℕ → ℕ → Type 0
 Handed l bump h n = Between (l .entries) (length (l .entries) - h) (length (l .entries)) n ⊎ ((bump ≤ n) × (n < bump + (h - length (l .entries))))
 
-pub handed-fresh : (l : FreeList) (bump h n : ℕ) → Handed l bump h n → Fresh l bump n
-handed-fresh l bump h n (inl b) = inl (between-mem (l .entries) (length (l .entries) - h) (length (l .entries)) n (omega arith) b)
-handed-fresh l bump h n (inr b) = inr (b .0)
+pub handed-free : (l : FreeList) (bump h n : ℕ) → Handed l bump h n → Free l bump n
+handed-free l bump h n (inl b) = inl (between-mem (l .entries) (length (l .entries) - h) (length (l .entries)) n (omega arith) b)
+handed-free l bump h n (inr b) = inr (b .0)
 
 handed-more : (l : FreeList) (bump h k n : ℕ) → h ≤ k → Handed l bump h n → Handed l bump k n
 handed-more l bump h k n le (inl (i, a, b, e)) = inl (i, omega arith, b, e)
 handed-more l bump h k n le (inr b) = inr (b .0, omega (arith, b .1))
-
--- an open save of the first list: only its count and its recorded length change
-pub record SaveOf (l : FreeList) (bump : ℕ) (v : Save) : Type 0 where
-  pub list : listOf v ≡ l
-  pub P : v .P ≡ length (l .pages)
-  pub L : v .L ≡ length (l .entries)
-  pub start : v .bump ≡ bump
-
-pub opened-save : {a : State} {v : Save} → Opened a v → SaveOf (a .list) (a .bump) v
-opened-save o = record { list = o .list; P = o .P; L = o .L; start = o .start }
 
 module _ (s : ℕ) (l : FreeList) (bump : ℕ) where
   -- the next number is handed out with one more in the count
@@ -59,7 +49,8 @@ module _ (s : ℕ) (l : FreeList) (bump : ℕ) where
       listed : v .handed < v .L → Handed l bump (suc (v .handed)) (getD (v .entryTable) (v .L - suc (v .handed)) 0)
       listed h =
           let i = v .L - suc (v .handed) in
-          let same : getD (v .entryTable) i 0 ≡ getD (l .entries) i 0 = sym (getD-take (v .L) (v .entryTable) i 0 (omega arith)) ∙ ap (λ (m : FreeList). getD (m .entries) i 0) (o .list) in
+          let same : getD (v .entryTable) i 0 ≡ getD (l .entries) i 0 =
+          sym (getD-take (v .L) (v .entryTable) i 0 (omega arith)) ∙ ap (λ (m : FreeList). getD (m .entries) i 0) (o .list) in
           inl (i, omega (arith, o .L), omega (arith, o .L), same)
 
   -- what a number handed out leaves

@@ -1,5 +1,5 @@
 -- A small save, at pages of 16 bytes, that meets the premises of demand 3; a save upon it, cut and whole; and two wrong finishes, whose
--- pages would break the first save.
+-- pages would break the first save. By computation, and from the theorem.
 use Prim.Native.Nat.{ℕ, zero, suc, _<_}
 use mathlib.Core.Path.{_≡_, refl, sym, subst}
 use mathlib.Core.Logic.{_⊎_, inl, inr}
@@ -17,18 +17,18 @@ use Rattle.page.specs.Pages.{pageCount, pageAt, Write, writePage, writePages}
 use Rattle.page.specs.Growth.{roundedUp, grown}
 use Rattle.free_list.specs.Shape.{FreeList, isShape, isFragmented, entriesBelow, entriesOn}
 use Rattle.free_list.specs.ListPages.{prevOf, countOf, entriesOf, encodeListPage}
-use Rattle.free_list.specs.Reading.{countFits, entriesFit, readFrom, readList}
-use Rattle.overflow.specs.Totals.{rawPages, totalPages}
+use Rattle.free_list.specs.Reading.{countFits, entriesFit, readFrom, listFrom, readList}
+use Rattle.overflow.specs.Totals.{maxSize, rawPages, totalPages}
 use Rattle.overflow.specs.Layout.{numbersBefore, numbersOn, bytesBefore, bytesOn}
 use Rattle.overflow.specs.ValuePages.{numberCount, byteCount, valueNumbers, valueBytes, encodeValuePage, valuePage}
 use Rattle.overflow.specs.Cells.{cellBytes, cellSize, cellCount, cellOf, decodeCell}
 use Rattle.overflow.specs.Kept.{Kept, cellFor}
-use Rattle.overflow.specs.Reading.{parsePage, walk, walkCell, tableAfter, admitted, readInto as readValueInto}
+use Rattle.overflow.specs.Reading.{inStore, parsePage, walk, admitted, readValueInto}
 use Rattle.preallocate.specs.Plan.{pagesFor, room, pagesAfter, pushedAfter, firstPlan, nextPlan, enoughRoom, planOf}
 use Rattle.allocator.specs.OpenSave.{Save, stateFits, nextNumber, nextRecorded, handOut}
-use Rattle.allocator.specs.Finish.{newList, encodedPage, encodedPages, Finished, carriedOut, finishList, firstBad, finished, finish}
+use Rattle.finisher.specs.Finish.{newList, encodedPage, encodedPages, Finished, carriedOut, finishList, firstBad, finished, finish}
 use Rattle.rollback.specs.Calls.{Call, handOutCall, finishCall, Run, run}
-use Rattle.rollback.specs.Rollback.{GetsList, Value, GetsValue, State, Good, Opened, ToWrite, valuePage as valuePageAt, listPage, Cut}
+use Rattle.rollback.specs.Rollback.{GetsList, Value, GetsValue, State, Good, SaveOf, ToWrite, valuePage as valuePageAt, listPage, Cut}
 use Rattle.rollback.proofs.ReadersLaws.{gets-list}
 use Rattle.rollback.proofs.BridgeLaws.{written-value}
 use Rattle.rollback.proofs.RollbackLaws.{rollback}
@@ -57,11 +57,11 @@ pub first : State
 first = record { store = store; head = 1; list = list; values = value ∷ []; bump = 5 }
 
 reads : readList 16 store 1 ≡ answer list
-unfolding store list readList readFrom pageCount pageAt capacity prevOf countOf entriesOf encodeListPage countFits entriesFit numberAt numbersAt bytesOf bytesOfAll encodeValuePage bytes
+unfolding store list listFrom readFrom pageCount pageAt capacity prevOf countOf entriesOf encodeListPage countFits entriesFit numberAt numbersAt bytesOf bytesOfAll encodeValuePage bytes
 reads = refl
 
-kept : Kept 16 store bytes (4 ∷ [])
-unfolding store totalPages rawPages pageCount pageAt valuePage encodeListPage encodeValuePage numbersBefore numbersOn bytesBefore bytesOn bytesOf bytesOfAll bytes
+kept : Kept 16 store (totalPages 16 (length bytes)) bytes (4 ∷ [])
+unfolding store maxSize totalPages rawPages pageCount pageAt valuePage encodeListPage encodeValuePage numbersBefore numbersOn bytesBefore bytesOn bytesOf bytesOfAll bytes
 kept =
     record {
       size = omega arith;
@@ -70,7 +70,7 @@ kept =
       pages = λ i h. at i h;
     }
   where
-    at : (i : ℕ) → i < 1 → (getD (4 ∷ []) i 0 < pageCount 16 store) × (pageAt 16 store (getD (4 ∷ []) i 0) ≡ valuePage 16 bytes (4 ∷ []) i)
+    at : (i : ℕ) → i < 1 → (getD (4 ∷ []) i 0 < pageCount 16 store) × (pageAt 16 store (getD (4 ∷ []) i 0) ≡ valuePage 16 1 bytes (4 ∷ []) i)
     at zero h = (omega arith, refl)
     at (suc i) h = absurd (omega arith)
 
@@ -107,7 +107,7 @@ unfolding first list value hash allIn
 good =
     record {
       reads = gets-list 16 store 1 list reads;
-      each = of-value (GetsValue 16 store) (written-value 16 size store bytes hash (4 ∷ []) kept refl);
+      each = of-value (GetsValue 16 store) (written-value size kept hash refl);
       different = (absent 1 (2 ∷ 3 ∷ []) refl, (absent 2 (3 ∷ []) refl, (absent 3 [] refl, tt)));
       below = below 5 (1 ∷ 2 ∷ 3 ∷ []) refl;
       values-below = of-value (λ (x : Value). (n : ℕ) → List·Memᴰ n (x .numbers) → n < 5) (below 5 (4 ∷ []) refl);
@@ -121,7 +121,7 @@ good =
 save : Save
 save = record { pageTable = 1 ∷ 0 ∷ []; entryTable = 2 ∷ 3 ∷ 0 ∷ []; P = 1; L = 2; bump = 5; recorded = 6; handed = 0 }
 
-opened : Opened first save
+opened : SaveOf (first .list) (first .bump) save
 unfolding first list save
 opened = record { list = refl; P = refl; L = refl; start = refl }
 
@@ -132,35 +132,19 @@ made : Run
 made = run 16 save calls
 
 -- it hands out 3, and makes one list page, at 2, with the freed number and the old list page
-handed-out : made .numbers ≡ 3 ∷ []
-unfolding made save calls run handOut stateFits isShape isFragmented capacity nextNumber nextRecorded grown roundedUp firstBad newList entriesBelow entriesOn encodedPage encodedPages carriedOut finishList finished finish pagesFor room pagesAfter pushedAfter firstPlan nextPlan enoughRoom planOf
-handed-out = refl
-
-newPage : Write
+abbrev newPage : Write
 newPage = record { number = 2; bytes = encodeListPage 16 0 (4 ∷ 1 ∷ []) }
 
-result : Finished
+abbrev result : Finished
 result = record { list = record { pages = 2 ∷ []; entries = 4 ∷ 1 ∷ [] }; bump = 5; written = newPage ∷ [] }
 
-finished-so : made .finished ≡ result ∷ []
-unfolding result newPage made save calls run handOut stateFits isShape isFragmented capacity nextNumber nextRecorded grown roundedUp firstBad newList entriesBelow entriesOn encodedPage encodedPages carriedOut finishList finished finish pagesFor room pagesAfter pushedAfter firstPlan nextPlan enoughRoom planOf
-finished-so = refl
+made-so : made ≡ record { numbers = 3 ∷ []; finished = result ∷ []; freed = 4 ∷ [] }
+unfolding made save calls run handOut stateFits isShape isFragmented capacity nextNumber nextRecorded grown roundedUp firstBad newList entriesBelow entriesOn encodedPage encodedPages carriedOut finishList finished finish pagesFor room pagesAfter pushedAfter firstPlan nextPlan enoughRoom planOf
+made-so = refl
 
 -- both pages are written, the list page first
-newValue : Write
+abbrev newValue : Write
 newValue = record { number = 3; bytes = replicate 16 255 }
-
-in-result : List·Memᴰ newPage (result .written)
-unfolding result
-in-result = List·Memᴰ·head refl
-
-whole : length (newValue .bytes) ≡ 16
-unfolding newValue
-whole = refl
-
-three : newValue .number ≡ 3
-unfolding newValue
-three = refl
 
 pub after : List ℕ
 after = writePages 16 (store ++ []) (newPage ∷ newValue ∷ [])
@@ -174,38 +158,38 @@ cut =
       calls = calls;
       extra = [];
       writes = newPage ∷ newValue ∷ [];
-      allowed = λ w m. go w (List·Memᴰ·cases-cons m);
+      allowed = λ w m. subst (λ (r : Run). ToWrite 16 r w) (sym made-so) (go w (List·Memᴰ·cases-cons m));
       leaves = refl;
     }
   where
-    page : List·Memᴰ newPage (result .written) → ToWrite 16 made newPage
-    page m = listPage result (subst (λ (fs : List Finished). List·Memᴰ result fs) (sym finished-so) (List·Memᴰ·head refl)) m
-
-    go : (w : Write) → (w ≡ newPage) ⊎ List·Memᴰ w (newValue ∷ []) → ToWrite 16 made w
-    go w (inl e) = subst (ToWrite 16 made) (sym e) (page in-result)
-    go w (inr m) =
-        subst (ToWrite 16 made) (sym (List·Memᴰ·eq-of-singleton m)) (valuePageAt (subst (λ (n : ℕ). List·Memᴰ n (made .numbers)) (sym three) (subst (List·Memᴰ 3) (sym handed-out) (List·Memᴰ·head refl))) whole)
+    go : (w : Write) → (w ≡ newPage) ⊎ List·Memᴰ w (newValue ∷ []) → ToWrite 16 (record { numbers = 3 ∷ []; finished = result ∷ []; freed = 4 ∷ [] }) w
+    go w (inl e) = subst (ToWrite 16 _) (sym e) (listPage result (List·Memᴰ·head refl) (List·Memᴰ·head refl))
+    go w (inr m) = subst (ToWrite 16 _) (sym (List·Memᴰ·eq-of-singleton m)) (valuePageAt (List·Memᴰ·head refl) refl)
 
 -- by the theorem the first head and cell read as before,
 pub still-reads : GetsList 16 after 1 list × GetsValue 16 after value
 unfolding first
 still-reads =
-    let r = rollback 16 size first after good cut in
+    let r = rollback size first after good cut in
     (r .0, r .1 value (List·Memᴰ·head refl))
 
 -- and by computation the new head reads the new list
 pub new-reads : readList 16 after 2 ≡ answer (record { pages = 2 ∷ []; entries = 4 ∷ 1 ∷ [] })
-unfolding after newPage newValue writePages writePage store bytes readList readFrom pageCount pageAt capacity prevOf countOf entriesOf encodeListPage encodeValuePage countFits entriesFit numberAt numbersAt bytesOf bytesOfAll
+unfolding after writePages writePage store bytes listFrom readFrom pageCount pageAt capacity prevOf countOf entriesOf encodeListPage encodeValuePage countFits entriesFit numberAt numbersAt bytesOf bytesOfAll
 new-reads = refl
 
 -- ---- wrong finishes
 
 -- A finish that used the freed number 4 at once for its list page: the first value is lost.
-pub freed-reused : readValueInto 16 (value .cell) (writePages 16 store (record { number = 4; bytes = encodeListPage 16 0 (2 ∷ 1 ∷ []) } ∷ [])) (0 ∷ []) (0 ∷ 0 ∷ 0 ∷ 0 ∷ 0 ∷ []) .outcome ≡ refused 18 []
-unfolding value hash store bytes readValueInto admitted decodeCell cellOf cellSize cellCount cellBytes walkCell walk parsePage tableAfter totalPages rawPages numberCount byteCount valueNumbers valueBytes writePages writePage pageCount pageAt encodeListPage encodeValuePage numberAt numbersAt bytesOf bytesOfAll
+pub freed-reused :
+    readValueInto 16 (value .cell) (writePages 16 store (record { number = 4; bytes = encodeListPage 16 0 (2 ∷ 1 ∷ []) } ∷ []))
+    (record { numbers = 0 ∷ []; value = 0 ∷ 0 ∷ 0 ∷ 0 ∷ 0 ∷ [] }) .outcome ≡ refused 18 []
+unfolding value hash store bytes readValueInto admitted decodeCell cellOf cellSize cellCount cellBytes inStore walk parsePage maxSize totalPages rawPages numberCount byteCount valueNumbers valueBytes writePages writePage pageCount pageAt encodeListPage encodeValuePage numberAt numbersAt bytesOf bytesOfAll
 freed-reused = refl
 
 -- A finish that wrote its list page over the head: the first list is lost.
-pub head-in-place : readList 16 (writePages 16 store (record { number = 1; bytes = encodeListPage 16 0 (2 ∷ 4 ∷ []) } ∷ [])) 1 ≡ answer (record { pages = 1 ∷ []; entries = 2 ∷ 4 ∷ [] })
-unfolding store bytes writePages writePage readList readFrom pageCount pageAt capacity prevOf countOf entriesOf encodeListPage encodeValuePage countFits entriesFit numberAt numbersAt bytesOf bytesOfAll
+pub head-in-place :
+    readList 16 (writePages 16 store (record { number = 1; bytes = encodeListPage 16 0 (2 ∷ 4 ∷ []) } ∷ [])) 1
+    ≡ answer (record { pages = 1 ∷ []; entries = 2 ∷ 4 ∷ [] })
+unfolding store bytes writePages writePage listFrom readFrom pageCount pageAt capacity prevOf countOf entriesOf encodeListPage encodeValuePage countFits entriesFit numberAt numbersAt bytesOf bytesOfAll
 head-in-place = refl

@@ -3,7 +3,7 @@ use Prim.Native.Nat.{ℕ}
 use mathlib.Core.List.{List, [], _∷_}
 use Rattle.refusal.specs.Outcome.{Outcome, answer, refused}
 use Rattle.allocator.specs.OpenSave.{Save, HandedOut, handOut}
-use Rattle.allocator.specs.Finish.{Finished, finish}
+use Rattle.finisher.specs.Finish.{Finished, finish}
 
 -- hand out a number; or finish, with these numbers freed and so many bytes and numbers lent for the pages to write
 pub data Call : Type 0 where

@@ -1,23 +1,25 @@
 -- Document 01's demand 3, at pages of s bytes: what a reader with the first head and the first cells gets after a cut of the second save.
 use Prim.Native.Nat.{ℕ, _<_, _≤_}
 use mathlib.Core.Path.{_≡_}
-use mathlib.Core.List.{List, [], _∷_, _++_, List·Memᴰ}
+use mathlib.Core.Bool.{true, false}
+use mathlib.Core.List.{List, _++_, List·Memᴰ}
 use lib.ListN.{length}
 use lib.Seq.{sets}
+use Rattle.laws.specs.Counting.{Different}
 use Rattle.refusal.specs.Outcome.{answer}
+use Rattle.refusal.specs.Effect.{effect}
 use Rattle.page.specs.Pages.{Write, writePages}
 use Rattle.free_list.specs.Shape.{FreeList}
-use Rattle.free_list.specs.Reading.{sizeOf, readInto}
+use Rattle.free_list.specs.Reading.{sizeOf, ListTables, listIn, hasRoom, readListInto}
 use Rattle.overflow.specs.Cells.{cellCount, decodeCellInto}
-use Rattle.overflow.specs.Reading.{readInto as readValueInto}
+use Rattle.overflow.specs.Reading.{ReadLent, readValueInto}
 use Rattle.allocator.specs.OpenSave.{Save, listOf}
-use Rattle.allocator.specs.Finish.{Finished}
+use Rattle.finisher.specs.Finish.{Finished}
 use Rattle.rollback.specs.Calls.{Call, Run, run}
 
--- the reader with this head gets this list, into any tables that are long enough: P and L, page numbers and entries in order
+-- the reader with this head gets this list, into any tables with room for it: P and L, page numbers and entries in order
 abbrev pub GetsList : ℕ → List ℕ → ℕ → FreeList → Type 0
-GetsList s store head l = (pages entries : List ℕ) → length (l .pages) ≤ length pages → length (l .entries) ≤ length entries
-    → readInto s store head pages entries ≡ record { outcome = answer (sizeOf l); pages = sets pages 0 (l .pages); entries = sets entries 0 (l .entries) }
+GetsList s store head l = (t : ListTables) → hasRoom t l ≡ true → readListInto s store false head t ≡ effect (answer (sizeOf l)) (listIn t l)
 
 -- a cell, and the value that it leads to: its hash, the numbers of its pages and its bytes
 pub record Value : Type 0 where
@@ -26,17 +28,15 @@ pub record Value : Type 0 where
   pub numbers : List ℕ
   pub bytes : List ℕ
 
+-- the value stands at the start of what is lent, whose other places stay
+abbrev pub valueIn : ReadLent → Value → ReadLent
+valueIn lent x = record { numbers = sets (lent .numbers) 0 (x .numbers); value = sets (lent .value) 0 (x .bytes) }
+
 -- the reader with this cell gets the value's size and hash, and into any table and buffer that are long enough its numbers and bytes
 pub record GetsValue (s : ℕ) (store : List ℕ) (x : Value) : Type 0 where
-  pub cell : (hash : List ℕ) → decodeCellInto (x .cell) hash
-      ≡ record { outcome = answer (record { size = length (x .bytes); numbers = cellCount (x .cell) }); hash = sets hash 0 (x .hash) }
-  pub value : (table buffer : List ℕ) → length (x .numbers) ≤ length table → length (x .bytes) ≤ length buffer → readValueInto s (x .cell) store table buffer
-      ≡ record { outcome = answer (record { size = length (x .bytes); numbers = length (x .numbers) }); numbers = sets table 0 (x .numbers); value = sets buffer 0 (x .bytes) }
-
--- no number stands twice
-abbrev pub Different : List ℕ → Type 0
-Different [] = Unit {0}
-Different (n ∷ ns) = (List·Memᴰ n ns → ⊥) × Different ns
+  pub cell : (hash : List ℕ) → decodeCellInto s (x .cell) hash ≡ effect (answer (record { size = length (x .bytes); numbers = cellCount (x .cell) })) (sets hash 0 (x .hash))
+  pub value : (lent : ReadLent) → length (x .numbers) ≤ length (lent .numbers) → length (x .bytes) ≤ length (lent .value)
+      → readValueInto s (x .cell) store lent ≡ effect (answer (record { size = length (x .bytes); numbers = length (x .numbers) })) (valueIn lent x)
 
 -- a save: its store, and what its caller keeps of it
 pub record State : Type 0 where
@@ -55,12 +55,13 @@ pub record Good (s : ℕ) (a : State) : Type 0 where
   pub values-below : (x : Value) → List·Memᴰ x (a .values) → (n : ℕ) → List·Memᴰ n (x .numbers) → n < a .bump
   pub values-apart : (x : Value) → List·Memᴰ x (a .values) → (n : ℕ) → List·Memᴰ n (x .numbers) → List·Memᴰ n (a .list .pages ++ a .list .entries) → ⊥
 
--- an open save of its list, which stands at the front of the tables; nothing is asked of what they hold past it, the recorded length and the count
-pub record Opened (a : State) (v : Save) : Type 0 where
-  pub list : listOf v ≡ a .list
-  pub P : v .P ≡ length (a .list .pages)
-  pub L : v .L ≡ length (a .list .entries)
-  pub start : v .bump ≡ a .bump
+-- an open save of this list and bump: the list stands at the front of its tables; nothing is asked of what they hold past it, nor of the
+-- recorded length and the count
+pub record SaveOf (l : FreeList) (bump : ℕ) (v : Save) : Type 0 where
+  pub list : listOf v ≡ l
+  pub P : v .P ≡ length (l .pages)
+  pub L : v .L ≡ length (l .entries)
+  pub start : v .bump ≡ bump
 
 -- what may be written: any page at a number that was handed out, and the list pages of the finish that succeeded, each at its number
 pub data ToWrite (s : ℕ) (r : Run) (w : Write) : Type 0 where
@@ -70,7 +71,7 @@ pub data ToWrite (s : ℕ) (r : Run) (w : Write) : Type 0 where
 -- the next save, cut anywhere: its calls; the bytes by which the store has grown; the pages written, each whole, in any order
 pub record Cut (s : ℕ) (a : State) (after : List ℕ) : Type 0 where
   pub save : Save
-  pub opened : Opened a save
+  pub opened : SaveOf (a .list) (a .bump) save
   pub calls : List Call
   pub extra : List ℕ
   pub writes : List Write

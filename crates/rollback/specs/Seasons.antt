@@ -3,10 +3,12 @@ use Prim.Native.Nat.{ℕ, _<_}
 use mathlib.Core.Path.{_≡_}
 use mathlib.Core.Logic.{_⊎_}
 use mathlib.Core.List.{List, [], _∷_, List·Memᴰ}
+use Rattle.laws.specs.Counting.{Different}
 use Rattle.page.specs.Pages.{pageCount, pageAt, Write}
-use Rattle.allocator.specs.Finish.{Finished, headOf}
+use Rattle.free_list.specs.Shape.{headOf}
+use Rattle.finisher.specs.Finish.{Finished}
 use Rattle.rollback.specs.Calls.{Run, run}
-use Rattle.rollback.specs.Rollback.{Value, GetsValue, Different, State, Cut}
+use Rattle.rollback.specs.Rollback.{Value, GetsValue, State, Cut}
 
 -- The save was finished, and its list pages are in the store. Freed are different pages of the store, none a list page, nor an entry that
 -- was not handed out. The values left are first ones, and new ones that read and whose pages were handed out; none of their pages is freed.

@@ -1,22 +1,22 @@
--- The samples hold: each row computes.
+-- Document 01's marked samples hold.
+-- Each row is an equation of two terms that compute to the same.
 use mathlib.Core.Path.{refl}
-use Rattle.refusal.specs.Outcome.{answer}
 use Rattle.page.specs.Growth.{grow, grown, roundedUp}
 use Rattle.page.specs.Bytes.{numberAt, numbersAt}
 use Rattle.page.specs.PageSize.{capacity}
 use Rattle.page.specs.Pages.{pageCount, pageAt}
 use Rattle.free_list.specs.ListPages.{prevOf, countOf, entriesOf}
-use Rattle.free_list.specs.Reading.{countFits, entriesFit, readFrom, readList}
+use Rattle.free_list.specs.Reading.{countFits, entriesFit, readFrom, listFrom}
 use Rattle.free_list.specs.Shape.{isShape, isFragmented, entriesBelow, entriesOn}
 use Rattle.preallocate.specs.Plan.{pagesFor, room, pagesAfter, pushedAfter, firstPlan, nextPlan, enoughRoom, planOf}
 use Rattle.allocator.specs.OpenSave.{stateFits, nextNumber, nextRecorded, handOut}
-use Rattle.allocator.specs.Finish.{newList, encodedPage, encodedPages, carriedOut, finishList, finished}
+use Rattle.finisher.specs.Finish.{newList, encodedPage, encodedPages, carriedOut, finishList, finished}
 use Rattle.overflow.specs.Totals.{rawPages, totalPages}
 use Rattle.overflow.specs.Layout.{numbersBefore, numbersOn, bytesBefore, bytesOn}
 use Rattle.samples.specs.Samples.{Samples}
 
 pub samples : Samples
-unfolding numberAt numbersAt capacity pageCount pageAt prevOf countOf entriesOf countFits entriesFit readFrom readList isShape isFragmented entriesBelow entriesOn pagesFor room pagesAfter pushedAfter firstPlan nextPlan enoughRoom planOf stateFits nextNumber nextRecorded handOut newList encodedPage encodedPages carriedOut finishList finished grow grown roundedUp rawPages totalPages numbersBefore numbersOn bytesBefore bytesOn
+unfolding numberAt numbersAt capacity pageCount pageAt prevOf countOf entriesOf countFits entriesFit readFrom listFrom isShape isFragmented entriesBelow entriesOn pagesFor room pagesAfter pushedAfter firstPlan nextPlan enoughRoom planOf stateFits nextNumber nextRecorded handOut newList encodedPage encodedPages carriedOut finishList finished grow grown roundedUp rawPages totalPages numbersBefore numbersOn bytesBefore bytesOn
 samples =
     record {
       grow-0 = refl;

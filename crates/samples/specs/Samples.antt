@@ -11,7 +11,7 @@ use Rattle.free_list.specs.ListPages.{encodeListPage}
 use Rattle.free_list.specs.Shape.{FreeList}
 use Rattle.free_list.specs.Reading.{readList}
 use Rattle.allocator.specs.OpenSave.{Save, HandedOut, handOut}
-use Rattle.allocator.specs.Finish.{Finished, finished}
+use Rattle.finisher.specs.Finish.{Finished, finished}
 use Rattle.overflow.specs.Totals.{cellNumbers, body, totalPages}
 use Rattle.overflow.specs.Layout.{numbersOn, bytesOn}
 

@@ -1,2 +1,2 @@
--- The page sizes that the tests ask for.
+-- Page sizes by their words (`Sizes`).
 pub mod Sizes

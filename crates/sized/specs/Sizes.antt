@@ -1,8 +1,7 @@
--- A test names the page size; the functions refuse a number that is none.
-use Prim.Native.Nat.{ℕ, _%_}
-use mathlib.Core.Bool.{Bool, _&&_}
-use lib.Dec.{leb, eqb}
+-- Page sizes by their words.
+use Prim.Native.Nat.{ℕ}
+use Rattle.page.specs.declared.size.PageSize.{PageSize}
 
--- is this a page size?
-unfoldable pub isPageSize : ℕ → Bool
-isPageSize s = leb 16 s && (leb s 65536 && eqb (s % 4) 0)
+-- the page of so many words of four bytes more than the four of the least page
+abbrev pub pagesOf : ℕ → PageSize
+pagesOf words = record { 0 = words }

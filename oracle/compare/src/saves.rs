@@ -19,7 +19,7 @@ use crate::{record::Recorder, report::Report, Plan};
 use common::Random;
 use kinds::KINDS;
 use model::After;
-use mopsienna_sys::{Form, Save, NO_PAGE_SIZE};
+use mopsienna_sys::{Form, Save};
 use nomt_plain::{Finished, List, Rust, State};
 use std::{collections::BTreeMap, io};
 
@@ -91,7 +91,7 @@ pub struct Comparison<'a> {
 
 /// The replies that have to be reached, by report.
 const REPLIES: [&[u32]; 3] = [
-    &[0, model::STATE, model::LIMIT, NO_PAGE_SIZE],
+    &[0, model::STATE, model::LIMIT],
     &[
         0,
         model::STATE,
@@ -99,9 +99,8 @@ const REPLIES: [&[u32]; 3] = [
         model::LIMIT,
         model::FREED,
         model::BUFFER,
-        NO_PAGE_SIZE,
     ],
-    &[0, NO_PAGE_SIZE],
+    &[0],
 ];
 
 impl<'a> Comparison<'a> {

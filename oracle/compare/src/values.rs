@@ -22,7 +22,7 @@ pub mod written;
 
 use crate::{record::Recorder, report::Report, Plan};
 use common::Random;
-use mopsienna_sys::{Form, NO_PAGE_SIZE};
+use mopsienna_sys::Form;
 use nomt_plain::Values;
 use std::{collections::BTreeMap, io};
 
@@ -102,7 +102,7 @@ pub struct Comparison<'a> {
 
 /// The replies that have to be reached, by report.
 const REPLIES: [&[u32]; 6] = [
-    &[0, model::BUFFER, model::SIZE, model::INDEX, NO_PAGE_SIZE],
+    &[0, model::BUFFER, model::SIZE, model::INDEX],
     &[0, model::SIZE, model::ROOM],
     &[0, model::SIZE, model::CELL],
     &[
@@ -115,7 +115,6 @@ const REPLIES: [&[u32]; 6] = [
         model::PAGE,
         model::NUMBERS,
         model::BYTES,
-        NO_PAGE_SIZE,
     ],
     &[
         0,
@@ -126,9 +125,8 @@ const REPLIES: [&[u32]; 6] = [
         model::PAST_STORE,
         model::PAGE,
         model::NUMBERS,
-        NO_PAGE_SIZE,
     ],
-    &[0, model::BUFFER, model::PAST_STORE, NO_PAGE_SIZE],
+    &[0, model::BUFFER, model::PAST_STORE],
 ];
 
 impl<'a> Comparison<'a> {

@@ -11,9 +11,6 @@ pub enum Form {
     Sized(u64),
 }
 
-/// What libsized gives for a number that is no page size.
-pub const NO_PAGE_SIZE: u32 = 255;
-
 /// The page size of libmopsienna.
 const PAGE_SIZE: usize = 4096;
 
@@ -24,6 +21,12 @@ impl Form {
             PAGE_SIZE => Form::Fixed,
             _ => Form::Sized(page_size as u64),
         }
+    }
+
+    /// Any number can be passed: one that is no page size stands for the next one below, and for
+    /// the least or the greatest where there is none.
+    pub fn rounded(number: u64) -> Form {
+        Form::Sized(number.clamp(16, 65_536) / 4 * 4)
     }
 
     pub fn page_size(self) -> usize {
@@ -41,6 +44,11 @@ impl fmt::Display for Form {
             Form::Sized(size) => write!(f, "page size {size:4}"),
         }
     }
+}
+
+/// libsized takes a page's size as the words of four bytes that it has more than the least page.
+pub(crate) fn words(page_size: u64) -> u64 {
+    page_size.saturating_sub(16) / 4
 }
 
 /// Declares functions that both libraries have: `mopsienna_NAME` as `fixed::NAME`, and `sized_NAME`,
@@ -61,7 +69,7 @@ macro_rules! in_both {
 
             extern "C" {$(
                 #[link_name = concat!("sized_", stringify!($name))]
-                pub fn $name(page_size: u64, $($parameter: $type),*) -> u32;
+                pub fn $name(words: u64, $($parameter: $type),*) -> u32;
             )*}
         }
     };
@@ -72,7 +80,7 @@ macro_rules! call {
     ($form:expr, $name:ident($($argument:expr),* $(,)?)) => {
         match $form {
             Form::Fixed => fixed::$name($($argument),*),
-            Form::Sized(page_size) => sized::$name(page_size, $($argument),*),
+            Form::Sized(page_size) => sized::$name($crate::form::words(page_size), $($argument),*),
         }
     };
 }

@@ -6,7 +6,7 @@
 mod form;
 pub mod values;
 
-pub use form::{Form, NO_PAGE_SIZE};
+pub use form::Form;
 
 use form::{call, in_both};
 use std::fmt;

@@ -10,12 +10,13 @@ use crate::{
     report::difference,
 };
 use common::Random;
-use mopsienna_sys::{Lent, Reply, Save, NO_PAGE_SIZE};
+use mopsienna_sys::{Lent, Reply, Save};
 use nomt_plain::{Held, List, Rust};
 use std::io;
 
 impl Comparison<'_> {
-    /// Numbers that are no page size, and the least and the greatest that are.
+    /// Numbers that are no page size, beside the page sizes that they stand for; the least and the
+    /// greatest that are.
     pub fn page_sizes(&mut self) {
         let save = Save {
             bump: 30,
@@ -38,26 +39,34 @@ impl Comparison<'_> {
             1 << 32,
             u64::MAX,
         ] {
-            let form = Form::Sized(size);
-            let refused = Reply::refusal(NO_PAGE_SIZE, &[]);
+            let (form, rounded) = (Form::Sized(size), Form::rounded(size));
             let text = || format!("page size {size}");
-            let reply = self.library.hand_out(form, &save, &[], &[]);
-            self.reports[HAND_OUT].compare(&refused, &reply, true, text);
-            let before = lent(
-                &vec![],
-                Room {
-                    pages: 3,
-                    entries: 3,
-                    bytes: 200,
-                    numbers: 3,
-                },
-            );
-            let mut after = before.clone();
-            let reply = self.library.finish(form, &save, &[5], &mut after);
-            self.reports[FINISH].compare(&refused, &reply, before == after, text);
-            let (pages, entries) = (&mut after.pages, &mut after.entries);
-            let reply = self.library.read_list(form, &[0; 64], 0, pages, entries);
-            self.reports[READ_BACK].compare(&refused, &reply, before == after, text);
+            let library = self.library;
+            let expected = library.hand_out(rounded, &save, &[], &[]);
+            let got = library.hand_out(form, &save, &[], &[]);
+            self.reports[HAND_OUT].compare(&expected, &got, true, text);
+            let room = Room {
+                pages: 3,
+                entries: 3,
+                bytes: rounded.page_size(),
+                numbers: 3,
+            };
+            let finish = |form| {
+                let mut lent = lent(&vec![], room);
+                let reply = library.finish(form, &save, &[1], &mut lent);
+                (reply, lent)
+            };
+            let (expected, got) = (finish(rounded), finish(form));
+            self.reports[FINISH].compare(&expected.0, &got.0, expected.1 == got.1, text);
+            let store = [vec![0; rounded.page_size()], expected.1.buffer].concat();
+            let read = |form| {
+                let (mut pages, mut entries) = (vec![0; 2], vec![0; 2]);
+                let reply = library.read_list(form, &store, 1, &mut pages, &mut entries);
+                (reply, pages, entries)
+            };
+            let (expected, got) = (read(rounded), read(form));
+            let same = expected.1 == got.1 && expected.2 == got.2;
+            self.reports[READ_BACK].compare(&expected.0, &got.0, same, text);
         }
         for size in [16, 65_536] {
             let reply = self.library.hand_out(Form::Sized(size), &save, &[], &[]);

@@ -10,42 +10,53 @@ use crate::{
     record::{Kind, Line},
     report::difference,
 };
-use mopsienna_sys::{values::Hash, Form, Reply, NO_PAGE_SIZE};
+use mopsienna_sys::{values::Hash, Form, Reply};
 use nomt_plain::Values;
 
 /// The hash before a call.
 pub const UNTOUCHED_HASH: Hash = [0xA5; 32];
 
 impl Comparison<'_> {
-    /// Numbers that are no page size.
+    /// Numbers that are no page size, beside the page sizes that they stand for.
     pub fn page_sizes(&mut self) {
         for size in [0, 4, 12, 15, 17, 18, 4095, 65_540, 1 << 32, u64::MAX] {
-            let form = Form::Sized(size);
-            let refused = Reply::refusal(NO_PAGE_SIZE, &[]);
+            let (form, rounded) = (Form::Sized(size), Form::rounded(size));
             let text = || format!("page size {size}");
-            let bytes = untouched_bytes(64);
-            let numbers = untouched_numbers(3);
+            let bytes = rounded.page_size();
+            let library = self.library;
 
-            let mut page = bytes.clone();
-            let reply = self
-                .library
-                .write_value_page(form, &[7], &[1], 0, &mut page);
-            self.reports[WRITE].compare(&refused, &reply, page == bytes, text);
+            let write = |form| {
+                let mut page = untouched_bytes(bytes);
+                let reply = library.write_value_page(form, &[7], &[1], 0, &mut page);
+                (reply, page)
+            };
+            let (expected, got) = (write(rounded), write(form));
+            self.reports[WRITE].compare(&expected.0, &got.0, expected.1 == got.1, text);
 
-            let (cell, store) = (&[0; 44], &[0; 64]);
-            let (mut table, mut value) = (numbers.clone(), bytes.clone());
-            let reply = self
-                .library
-                .read_value(form, cell, store, &mut table, &mut value);
-            let same = table == numbers && value == bytes;
-            self.reports[READ].compare(&refused, &reply, same, text);
+            let mut cell = [0; 44];
+            let (size, number) = (1, 1);
+            (cell[0], cell[40]) = (size, number);
+            let store = [vec![0; bytes], expected.1].concat();
+            let read = |form| {
+                let (mut table, mut value) = (untouched_numbers(3), untouched_bytes(64));
+                let reply = library.read_value(form, &cell, &store, &mut table, &mut value);
+                (reply, table, value)
+            };
+            let (expected, got) = (read(rounded), read(form));
+            let same = expected.1 == got.1 && expected.2 == got.2;
+            self.reports[READ].compare(&expected.0, &got.0, same, text);
 
-            let mut table = numbers.clone();
-            let reply = self.library.delete_value(form, cell, store, &mut table);
-            self.reports[DELETE].compare(&refused, &reply, table == numbers, text);
+            let delete = |form| {
+                let mut table = untouched_numbers(3);
+                let reply = library.delete_value(form, &cell, &store, &mut table);
+                (reply, table)
+            };
+            let (expected, got) = (delete(rounded), delete(form));
+            self.reports[DELETE].compare(&expected.0, &got.0, expected.1 == got.1, text);
 
-            let reply = self.library.lookup(form, &[], &[], store, 0);
-            self.reports[LOOKUP].compare(&refused, &reply, true, text);
+            let expected = library.lookup(rounded, &[], &[], &store, 1);
+            let got = library.lookup(form, &[], &[], &store, 1);
+            self.reports[LOOKUP].compare(&expected, &got, true, text);
         }
     }
 

@@ -11,16 +11,21 @@ use Rattle.free_list.proofs.list_page.encode_free_list_page.Statement.{
 use Rattle.free_list.proofs.list_page.encode_free_list_page.Tie as tie
 
 write-u32-requires : tie.Need-write-u32-requires
-write-u32-requires c κs = omega (arith, page-least (c .before .before .before .pre .0), c .before .before .before .pre .1)
+write-u32-requires c κs = let p = c .before .before .before .pre in omega (arith, page-least (p .0), p .1)
 
 cast-write-u16 : tie.Need-cast-write-u16
-cast-write-u16 c = omega (arith, page-room _ (c .before .before .before .before .before .before .before .pre .0) (c .before .before .before .before .before .before .before .pre .2), c .before .before .before .before .before .before .before .pre .0 .limit)
+cast-write-u16 c =
+    let p = c .before .before .before .before .before .before .before .pre in
+    omega (arith, page-room _ (p .0) (p .2), p .0 .limit)
 
 write-u16-requires : tie.Need-write-u16-requires
-write-u16-requires c κs = omega (arith, page-least (c .before .before .before .before .before .before .before .pre .0), c .before .before .before .before .before .before .before .pre .1)
+write-u16-requires c κs = let p = c .before .before .before .before .before .before .before .pre in omega (arith, page-least (p .0), p .1)
 
 write-numbers-requires : tie.Need-write-numbers-requires
-write-numbers-requires c κs = (c .before .before .before .before .before .before .before .before .before .before .before .pre .3, omega (arith, page-room _ (c .before .before .before .before .before .before .before .before .before .before .before .pre .0) (c .before .before .before .before .before .before .before .before .before .before .before .pre .2), c .before .before .before .before .before .before .before .before .before .before .before .pre .1))
+write-numbers-requires c κs =
+    let at-count = c .before .before .before in
+    let p = at-count .before .before .before .before .before .before .before .before .pre in
+    (p .3, omega (arith, page-room _ (p .0) (p .2), p .1))
 
 mul-clear : tie.Need-mul-clear
 mul-clear c = search needs
@@ -36,10 +41,16 @@ same-length c = search needs
 
 returns : tie.Need-returns
 returns c =
-    let a = c .before .before .before .before .before .before .before .before .before .before .before .before .before .before .before .before .before .before .args in
+    let at-clear = c .before .before in
+    let at-numbers = at-clear .before .before .before .before in
+    let at-count = at-numbers .before .before .before .before in
+    let at-prev = at-count .before .before .before .before in
+    let at-start = at-prev .before .before .before .before in
+    let a = at-start .args in
+    let p = at-start .pre in
     let es = take (a .n) (drop (a .from) (a .entries .now)) in
-    let count : length es ≡ a .n = length-take-le (a .n) (drop (a .from) (a .entries .now)) (omega (arith, c .before .before .before .before .before .before .before .before .before .before .before .before .before .before .before .before .before .before .pre .3, length-drop (a .from) (a .entries .now))) in
-    encoded (a .size) (a .prev .0) es (a .n) (a .page .now) _ _ _ _ count (c .before .before .before .before .before .before .before .before .before .before .before .before .before .before .before .before .before .before .pre .1) (page-room _ (c .before .before .before .before .before .before .before .before .before .before .before .before .before .before .before .before .before .before .pre .0) (c .before .before .before .before .before .before .before .before .before .before .before .before .before .before .before .before .before .before .pre .2)) (c .before .before .before .before .before .before .before .before .before .before .before .before .before .before .write-u32 .ensures) (c .before .before .before .before .before .before .before .before .before .before .write-u16 .ensures) (c .before .before .before .before .before .before .write-numbers .ensures) (c .before .before .clear .ensures)
+    let count : length es ≡ a .n = length-take-le (a .n) (drop (a .from) (a .entries .now)) (omega (arith, p .3, length-drop (a .from) (a .entries .now))) in
+    encoded (a .page-size) (a .prev .0) es (a .n) (a .page .now) _ _ _ _ count (p .1) (page-room _ (p .0) (p .2)) (at-prev .write-u32 .ensures) (at-count .write-u16 .ensures) (at-numbers .write-numbers .ensures) (at-clear .clear .ensures)
 
 pub encode-free-list-page-spec : {M : Type 1} → statement M
 encode-free-list-page-spec =

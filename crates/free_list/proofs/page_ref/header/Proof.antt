@@ -5,7 +5,7 @@ use denote.Triple.Spec.{tripleOf}
 use denote.Triple.Table.{entered, cited}
 use Rattle.held.proofs.Holders.{OfHeld, MakesHeld}
 use Rattle.held.proofs.AskLaws.{ask-both-meets}
-use Rattle.free_list.proofs.HeldPages.{listPage, number, count, prevSays, countSays, headerOf, headerSays}
+use Rattle.free_list.proofs.PageRefs.{listPage, number, count, prevSays, countSays, headerOf, headerSays}
 use Rattle.free_list.proofs.page_ref.FreeListPageRef.new.Symbol as new-def
 use Rattle.free_list.proofs.page_ref.FreeListPageRef.new.Symbol.{name as #new}
 use Rattle.free_list.proofs.page_ref.FreeListPageRef.new.Met as new-thm

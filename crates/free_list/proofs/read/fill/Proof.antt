@@ -7,7 +7,7 @@ use native.Mathlib.Omega.{arith}
 use lib.ListN.{length, set}
 use lib.Seq.{sets}
 use Rattle.page.specs.Bytes.{numbersAt}
-use Rattle.page.specs.PageSize.{IsPageSize, capacity}
+use Rattle.page.specs.PageSize.{capacity}
 use Rattle.page.specs.Pages.{pageAt}
 use Rattle.page.proofs.PageSizeLaws.{page-least}
 use Rattle.page.proofs.PagesLaws.{page-within, length-pageAt}
@@ -26,17 +26,17 @@ record Page (s : ℕ) (store pages₀ entries₀ : List ℕ) (head left₀ : ℕ
       → Filling s store pages₀ entries₀ head left₀ (set pages (left - 1) page) written q (left - 1) (at - n)
 
 module _ {s : ℕ} {store pages₀ entries₀ : List ℕ} {head left₀ : ℕ} {pages entries : List ℕ} {page left at : ℕ} {b : List ℕ}
-    (size : IsPageSize s) (some : 0 < left) (f : Filling s store pages₀ entries₀ head left₀ pages entries page left at) (bytes : b ≡ pageAt s store page) where
+    (some : 0 < left) (f : Filling s store pages₀ entries₀ head left₀ pages entries page left at) (bytes : b ≡ pageAt s store page) where
   this : Filled s store pages₀ entries₀ head left₀ pages entries page left at
   this = filled s store pages₀ entries₀ head left₀ pages entries page left at some f
 
   long : length b ≡ s
-  long = ap length bytes ∙ length-pageAt s store page (page-within s store page (omega (arith, page-least size)) (this .inside))
+  long = ap length bytes ∙ length-pageAt s store page (page-within s store page (omega (arith, page-least (f .size))) (this .inside))
 
   the-page : (n : ℕ) → n ≡ countWithin b → Page s store pages₀ entries₀ head left₀ pages entries page left at n b
   unfolding capacity entriesOf
   the-page n header =
-      let least = page-least size in
+      let least = page-least (f .size) in
       let whole : 6 ≤ length b = omega (arith, long) in
       let count : n ≡ countOf b = header ∙ count-within b whole in
       let same : n ≡ countOf (pageAt s store page) = count ∙ ap countOf bytes in
@@ -47,18 +47,20 @@ module _ {s : ℕ} {store pages₀ entries₀ : List ℕ} {head left₀ : ℕ} {
       }
 
 abbrev Inv-loop : tie.InvT-loop
-Inv-loop store size head pages₀ entries₀ page₀ left₀ at₀ pages entries page left at = Filling size store pages₀ entries₀ head left₀ pages entries page left at
+Inv-loop page-size store head pages₀ entries₀ page₀ left₀ at₀ pages entries page left at = Filling page-size store pages₀ entries₀ head left₀ pages entries page left at
 
 abbrev μ-loop : tie.MeasureT-loop
-μ-loop store size head pages₀ entries₀ page₀ left₀ at₀ pages entries page left at = left
+μ-loop page-size store head pages₀ entries₀ page₀ left₀ at₀ pages entries page left at = left
 
 loop-holds : tie.Need-loop-holds Inv-loop μ-loop
 loop-holds c =
     let p = c .before .before .before .pre in
-    record { readable = p .1; count = p .2; pages-fit = p .3; entries-fit = p .4; pages-long = refl; entries-long = refl; pages-are = refl; entries-are = refl }
+    record { size = p .size; readable = p .readable; count = p .count; pages-fit = p .pages-fit; entries-fit = p .entries-fit; pages-long = refl; entries-long = refl; pages-are = refl; entries-are = refl }
 
 page-at-requires : tie.Need-page-at-requires Inv-loop μ-loop
-page-at-requires c κs = (c .before .before .before .before .before .pre .0, filled _ _ _ _ _ _ _ _ _ _ _ (c .loop-test .taken) (c .before .loop .inv) .inside)
+page-at-requires c κs =
+    let f = c .before .loop .inv in
+    (f .size, filled _ _ _ _ _ _ _ _ _ _ _ (c .loop-test .taken) f .inside)
 
 header-requires : tie.Need-header-requires Inv-loop μ-loop
 header-requires c κs = search needs
@@ -67,27 +69,36 @@ cast-n : tie.Need-cast-n Inv-loop μ-loop
 cast-n c = search needs
 
 sub-at : tie.Need-sub-at Inv-loop μ-loop
-sub-at c = the-page (c .before .before .before .before .before .before .before .before .pre .0) (c .before .before .before .loop-test .taken) (c .before .before .before .before .loop .inv) (c .before .before .page-at .ensures) _ (c .before .header .ensures .1) .enough
+sub-at c =
+    let at-page = c .before .before in
+    the-page (at-page .before .loop-test .taken) (at-page .before .before .loop .inv) (at-page .page-at .ensures) _ (c .before .header .ensures .1) .enough
 
 read-numbers-requires : tie.Need-read-numbers-requires Inv-loop μ-loop
 read-numbers-requires c κs =
-    let p = the-page (c .before .before .before .before .before .before .before .before .before .pre .0) (c .before .before .before .before .loop-test .taken) (c .before .before .before .before .before .loop .inv) (c .before .before .before .page-at .ensures) _ (c .before .before .header .ensures .1) in
-    (p .room, omega (arith, p .enough, c .before .before .before .before .before .loop .inv .entries-fit))
+    let at-page = c .before .before .before in
+    let f = at-page .before .before .loop .inv in
+    let p = the-page (at-page .before .loop-test .taken) f (at-page .page-at .ensures) _ (c .before .before .header .ensures .1) in
+    (p .room, omega (arith, p .enough, f .entries-fit))
 
 sub-left : tie.Need-sub-left Inv-loop μ-loop
 sub-left c = omega arith
 
 mul-pages : tie.Need-mul-pages Inv-loop μ-loop
-mul-pages c = omega (arith, c .before .before .before .before .before .before .before .before .loop .inv .pages-fit)
+mul-pages c = let at-page = c .before .before .before .before .before .before in omega (arith, at-page .before .before .loop .inv .pages-fit)
 
 slice-write-pages : tie.Need-slice-write-pages Inv-loop μ-loop
-slice-write-pages c = omega (arith, c .before .before .before .before .before .before .before .before .loop .inv .pages-fit, c .before .before .before .before .before .before .before .loop-test .taken)
+slice-write-pages c =
+    let at-page = c .before .before .before .before .before .before in
+    omega (arith, at-page .before .before .loop .inv .pages-fit, at-page .before .loop-test .taken)
 
 loop-less : tie.Need-loop-less Inv-loop μ-loop
 loop-less c = omega arith
 
 loop-again : tie.Need-loop-again Inv-loop μ-loop
-loop-again c = the-page (c .before .before .before .before .before .before .before .before .before .before .before .before .pre .0) (c .before .before .before .before .before .before .before .loop-test .taken) (c .before .before .before .before .before .before .before .before .loop .inv) (c .before .before .before .before .before .before .page-at .ensures) _ (c .before .before .before .before .before .header .ensures .1) .next _ _ (c .before .before .read-numbers .ensures) (c .before .before .before .before .before .header .ensures .0)
+loop-again c =
+    let at-header = c .before .before .before .before .before in
+    let at-page = at-header .before in
+    the-page (at-page .before .loop-test .taken) (at-page .before .before .loop .inv) (at-page .page-at .ensures) _ (at-header .header .ensures .1) .next _ _ (c .before .before .read-numbers .ensures) (at-header .header .ensures .0)
 
 same-length : tie.Need-same-length Inv-loop μ-loop
 same-length c = c .before .loop .inv .pages-long

@@ -3,9 +3,10 @@
 use Prim.Native.Nat.{ℕ, _+_, _≤_}
 use mathlib.Core.Path.{_≡_, refl, sym, ap, _∙_, subst}
 use mathlib.Core.Logic.{inl, inr}
+use mathlib.Core.Bool.{Bool}
 use mathlib.Core.List.{List}
 use native.Mathlib.Omega.{arith}
-use Rattle.free_list.specs.Steps.{readSize, sizeFrom, walkedSize, Sound, Marked, Onward}
+use Rattle.free_list.specs.Steps.{readSize, sizeFrom, walkedSize, WalkFits, Marked, Onward, Walks}
 use Rattle.free_list.specs.declared.walk.Walk.{Walk}
 use Rattle.free_list.specs.declared.walk.Walked.{Walked}
 use Rattle.free_list.specs.declared.walk.Walked.the-variants.{More}
@@ -14,75 +15,101 @@ use borrow.Author.Needs.{needs}
 use Rattle.free_list.proofs.read.measure.Statement.{statement}
 use Rattle.free_list.proofs.read.measure.Tie as tie
 
--- what a walk that goes on says of where it stands
-onward : (s : ℕ) (store : List ℕ) (mark : ℕ) (w n : Walk) (nested : ℕ) {r : Walked} → r ≡ More n → Onward s store mark w nested r → (n .allowed + nested ≡ w .allowed) × Sound n × Marked s store mark n
-onward s store mark w n nested e o = subst (Onward s store mark w nested) e o
+-- where a walk goes on: what it says of where it stands
+record GoesOn (s : ℕ) (store : List ℕ) (loose : Bool) (mark nested : ℕ) (w n : Walk) : Type 0 where
+  fewer : n .allowed + nested ≡ w .allowed
+  fits : WalkFits n
+  marked : Marked s store loose mark n
+  same : sizeFrom s store loose n ≡ sizeFrom s store loose w
+
+goes-on : {s : ℕ} {store : List ℕ} {loose : Bool} {mark nested : ℕ} {w n : Walk} {r : Walked} → r ≡ More n → Walks s store loose mark nested w r → GoesOn s store loose mark nested w n
+goes-on {s} {store} {loose} {mark} {nested} {w} e v =
+    let o = subst (Onward s store loose mark nested w) e (v .onward) in
+    record { fewer = o .0; fits = o .1; marked = o .2; same = ap (walkedSize s store loose) (sym e) ∙ v .size }
 
 -- what the loop keeps
-record Kept (s : ℕ) (store : List ℕ) (head : ℕ) (w : Walk) (mark due : ℕ) : Type 0 where
-  sound : Sound w
-  same : sizeFrom s store w ≡ readSize s store head
-  marked : Marked s store mark w
+record Found (s : ℕ) (store : List ℕ) (loose : Bool) (head : ℕ) (w : Walk) (mark due : ℕ) : Type 0 where
+  fits : WalkFits w
+  same : sizeFrom s store loose w ≡ readSize s store loose head
+  marked : Marked s store loose mark w
   later : 2 ≤ due
 
 abbrev Inv-loop : tie.InvT-loop
-Inv-loop store size head count w₀ mark₀ due₀ w mark due = Kept size store head w mark due
+Inv-loop page-size store loose head count w₀ mark₀ due₀ w mark due = Found page-size store loose head w mark due
 
 abbrev μ-loop : tie.MeasureT-loop
-μ-loop store size head count w₀ mark₀ due₀ w mark due = w .allowed
+μ-loop page-size store loose head count w₀ mark₀ due₀ w mark due = w .allowed
 
 page-count-requires : tie.Need-page-count-requires Inv-loop μ-loop
 page-count-requires c κs = c .before .pre
 
-cast-t11 : tie.Need-cast-t11 Inv-loop μ-loop
-cast-t11 c = search needs
+cast-t12 : tie.Need-cast-t12 Inv-loop μ-loop
+cast-t12 c = search needs
 
 loop-holds : tie.Need-loop-holds Inv-loop μ-loop
 loop-holds c =
+    let a = c .before .before .args in
     record {
-      sound = record { few = omega arith; held = omega arith };
-      same = ap (λ (k : ℕ). sizeFrom (c .before .before .args .size) (c .before .before .args .store .now) (record { page = c .before .before .args .head; allowed = k; pages = 0; entries = 0 })) (c .page-count .ensures) ∙ size-start _ _ _;
+      fits = record { few = omega arith; few-entries = omega arith };
+      same = ap (λ (k : ℕ). sizeFrom (a .page-size) (a .store .now) (a .loose) (record { page = a .head; allowed = k; pages = 0; entries = 0 })) (c .page-count .ensures) ∙ size-start _ _ _ _;
       marked = inl refl;
       later = omega arith;
     }
 
 walk-down-requires : tie.Need-walk-down-requires Inv-loop μ-loop
-walk-down-requires c κs = (c .before .before .before .pre, c .before .page-count .ensures, c .loop .inv .sound, c .loop .inv .marked)
+walk-down-requires c κs =
+    record { size = c .before .before .before .pre; counted = c .before .page-count .ensures; fits = c .loop .inv .fits; marked = c .loop .inv .marked }
 
 enum-known-list : tie.Need-enum-known-list Inv-loop μ-loop
 enum-known-list c = search needs
 
 returns : tie.Need-returns Inv-loop μ-loop
-returns c = ap (walkedSize _ _) (sym (c .before .list .given .1)) ∙ c .before .before .before .walk-down .ensures .0 ∙ c .before .before .before .before .loop .inv .same
+returns c =
+    let at-walk = c .before .before .before in
+    ap (walkedSize _ _ _) (sym (c .before .list .given .1)) ∙ at-walk .walk-down .ensures .size ∙ at-walk .before .loop .inv .same
 
 enum-known-r : tie.Need-enum-known-r Inv-loop μ-loop
 enum-known-r c = search needs
 
 returns-2 : tie.Need-returns-2 Inv-loop μ-loop
-returns-2 c = ap (walkedSize _ _) (sym (c .before .r .given .1)) ∙ c .before .before .before .walk-down .ensures .0 ∙ c .before .before .before .before .loop .inv .same
+returns-2 c =
+    let at-walk = c .before .before .before in
+    ap (walkedSize _ _ _) (sym (c .before .r .given .1)) ∙ at-walk .walk-down .ensures .size ∙ at-walk .before .loop .inv .same
 
 enum-known-next : tie.Need-enum-known-next Inv-loop μ-loop
 enum-known-next c = search needs
 
 mul-due : tie.Need-mul-due Inv-loop μ-loop
-mul-due c = omega (arith, onward (c .before .before .before .before .before .before .before .before .before .before .args .size) (c .before .before .before .before .before .before .before .before .before .before .args .store .now) (c .before .before .before .before .before .before .before .loop .mark) (c .before .before .before .before .before .before .before .loop .w) (c .before .before .before .before .next .given .0 .0) _ (c .before .before .before .before .next .given .1) (c .before .before .before .before .before .before .walk-down .ensures .1) .1 .few)
+mul-due c =
+    let at-next = c .before .before .before .before in
+    omega (arith, goes-on (at-next .next .given .1) (at-next .before .before .walk-down .ensures) .fits .few)
 
 loop-less : tie.Need-loop-less Inv-loop μ-loop
-loop-less c = omega (arith, onward (c .before .before .before .before .before .before .before .before .before .before .args .size) (c .before .before .before .before .before .before .before .before .before .before .args .store .now) (c .before .before .before .before .before .before .before .loop .mark) (c .before .before .before .before .before .before .before .loop .w) (c .before .before .before .before .next .given .0 .0) _ (c .before .before .before .before .next .given .1) (c .before .before .before .before .before .before .walk-down .ensures .1) .0)
+loop-less c =
+    let at-next = c .before .before .before .before in
+    omega (arith, goes-on (at-next .next .given .1) (at-next .before .before .walk-down .ensures) .fewer)
 
 loop-again : tie.Need-loop-again Inv-loop μ-loop
 loop-again c =
-    let o = onward (c .before .before .before .before .before .before .before .before .before .before .args .size) (c .before .before .before .before .before .before .before .before .before .before .args .store .now) (c .before .before .before .before .before .before .before .loop .mark) (c .before .before .before .before .before .before .before .loop .w) (c .before .before .before .before .next .given .0 .0) _ (c .before .before .before .before .next .given .1) (c .before .before .before .before .before .before .walk-down .ensures .1) in
-    let deep : 2 ≤ c .before .before .before .before .next .given .0 .0 .pages = omega (arith, c .before .before .before .before .before .before .before .loop .inv .later, c .before .if1 .taken) in
-    record { sound = o .1; same = ap (walkedSize _ _) (sym (c .before .before .before .before .next .given .1)) ∙ c .before .before .before .before .before .before .walk-down .ensures .0 ∙ c .before .before .before .before .before .before .before .loop .inv .same; marked = inr (0, deep, refl); later = omega arith }
+    let at-next = c .before .before .before .before in
+    let at-walk = at-next .before .before in
+    let kept = at-walk .before .loop .inv in
+    let n = goes-on (at-next .next .given .1) (at-walk .walk-down .ensures) in
+    let deep : 2 ≤ at-next .next .given .0 .0 .pages = omega (arith, kept .later, c .before .if1 .taken) in
+    record { fits = n .fits; same = n .same ∙ kept .same; marked = inr (0, deep, refl); later = omega arith }
 
 loop-less-2 : tie.Need-loop-less-2 Inv-loop μ-loop
-loop-less-2 c = omega (arith, onward (c .before .before .before .before .before .before .before .before .before .args .size) (c .before .before .before .before .before .before .before .before .before .args .store .now) (c .before .before .before .before .before .before .loop .mark) (c .before .before .before .before .before .before .loop .w) (c .before .before .before .next .given .0 .0) _ (c .before .before .before .next .given .1) (c .before .before .before .before .before .walk-down .ensures .1) .0)
+loop-less-2 c =
+    let at-next = c .before .before .before in
+    omega (arith, goes-on (at-next .next .given .1) (at-next .before .before .walk-down .ensures) .fewer)
 
 loop-again-2 : tie.Need-loop-again-2 Inv-loop μ-loop
 loop-again-2 c =
-    let o = onward (c .before .before .before .before .before .before .before .before .before .args .size) (c .before .before .before .before .before .before .before .before .before .args .store .now) (c .before .before .before .before .before .before .loop .mark) (c .before .before .before .before .before .before .loop .w) (c .before .before .before .next .given .0 .0) _ (c .before .before .before .next .given .1) (c .before .before .before .before .before .walk-down .ensures .1) in
-    record { sound = o .1; same = ap (walkedSize _ _) (sym (c .before .before .before .next .given .1)) ∙ c .before .before .before .before .before .walk-down .ensures .0 ∙ c .before .before .before .before .before .before .loop .inv .same; marked = o .2; later = c .before .before .before .before .before .before .loop .inv .later }
+    let at-next = c .before .before .before in
+    let at-walk = at-next .before .before in
+    let kept = at-walk .before .loop .inv in
+    let n = goes-on (at-next .next .given .1) (at-walk .walk-down .ensures) in
+    record { fits = n .fits; same = n .same ∙ kept .same; marked = n .marked; later = kept .later }
 
 pub measure-spec : {M : Type 1} → statement M
 measure-spec =
@@ -91,7 +118,7 @@ measure-spec =
     Inv-loop
     μ-loop
     page-count-requires
-    cast-t11
+    cast-t12
     loop-holds
     walk-down-requires
     enum-known-list

@@ -3,9 +3,10 @@
 use Prim.Native.Nat.{_+_, _-_}
 use native.Mathlib.Omega.{arith}
 use mathlib.Core.Path.{_≡_, refl, sym, ap, _∙_, subst}
+use mathlib.Core.Bool.{Bool}
 use mathlib.Core.List.{List}
 use borrow.Author.Needs.{needs}
-use Rattle.free_list.specs.Steps.{visitedSize, Advanced, Passed, Onward}
+use Rattle.free_list.specs.Steps.{visitedSize, sizeFrom, Advanced, Passed, Visits, Onward}
 use Rattle.free_list.specs.declared.walk.Walk.{Walk}
 use Rattle.free_list.specs.declared.walk.Visited.{Visited}
 use Rattle.free_list.specs.declared.walk.Visited.the-variants.{Next}
@@ -24,19 +25,24 @@ use Rattle.free_list.proofs.walk.is_back.Reads as is-back-reads
 use Rattle.free_list.proofs.walk.+walk_down.{statement}
 use Rattle.free_list.proofs.walk.+walk_down.Tie.{close}
 
--- what a visit that went on says of the walk behind the page
-advanced : (s : ℕ) (store : List ℕ) (w n : Walk) {r : Visited} → r ≡ Next n → Advanced s store w r → Passed s store w n
-advanced s store w n e a = subst (Advanced s store w) e a
+-- where a visit went on: the list's size is the same behind the page, and the page is passed
+record WentOn (s : ℕ) (store : List ℕ) (loose : Bool) (w n : Walk) : Type 0 where
+  same : sizeFrom s store loose n ≡ sizeFrom s store loose w
+  passed : Passed s store loose w n
+
+went-on : {s : ℕ} {store : List ℕ} {loose : Bool} {w n : Walk} {r : Visited} → r ≡ Next n → Visits s store loose w r → WentOn s store loose w n
+went-on {s} {store} {loose} {w} e v =
+    record { same = ap (visitedSize s store loose) (sym e) ∙ v .size; passed = subst (Advanced s store loose w) e (v .advanced) }
 
 -- a walk behind the page nests one call less
-onward : (s : ℕ) (store : List ℕ) (mark : ℕ) (w n : Walk) (nested : ℕ) → n .allowed + 1 ≡ w .allowed → (nested ≡ 0 → ⊥) → (r : Walked)
-    → Onward s store mark n (nested - 1) r → Onward s store mark w nested r
-onward s store mark w n nested e some (Ended l) o = tt
-onward s store mark w n nested e some (More m) o = (omega (arith, o .0), o .1, o .2)
-onward s store mark w n nested e some (Stopped r) o = tt
+onward : {s : ℕ} {store : List ℕ} {loose : Bool} (mark : ℕ) {w n : Walk} (nested : ℕ) → Passed s store loose w n → (nested ≡ 0 → ⊥) → (r : Walked)
+    → Onward s store loose mark (nested - 1) n r → Onward s store loose mark nested w r
+onward mark nested p some (Ended l) o = tt
+onward mark nested p some (More m) o = (omega (arith, p .fewer, o .0), o .1, o .2)
+onward mark nested p some (Stopped r) o = tt
 
 abbrev μ-walk-down : Measures 1 walk-down-kinds.ps ℕ
-μ-walk-down κs a = a .1 .1 .1 .0 .allowed
+μ-walk-down κs a = a .1 .1 .1 .1 .0 .allowed
 
 abbrev walk-down-at : ℕ → In 1 walk-down-kinds.ps
 walk-down-at t = and 1 walk-down-kinds.ps (is 1 walk-down-kinds.ps μ-walk-down t) walk-down.Pre
@@ -49,16 +55,20 @@ abbrev walk-down-calls : ℕ → walk-down-lts.Claims
 walk-down-calls t = (visit-reads.Asked, visit-reads.Learnt, is-back-reads.Asked, is-back-reads.Learnt, walk-down-below t, walk-down.Post)
 
 walk-down-returns : (t : ℕ) → walk-down-lts.Need-returns (walk-down-calls t) (walk-down-at t) walk-down.Post
-walk-down-returns t c = (size-end _ _ _ (c .if1 .taken), tt)
+walk-down-returns t c = record { size = size-end _ _ _ _ (c .if1 .taken); onward = tt }
 
 walk-down-returns-2 : (t : ℕ) → walk-down-lts.Need-returns-2 (walk-down-calls t) (walk-down-at t) walk-down.Post
-walk-down-returns-2 t c = (size-chain _ _ _ (c .if2 .taken) (c .before .before .if1 .left), tt)
+walk-down-returns-2 t c = record { size = size-chain _ _ _ _ (c .if2 .taken) (c .before .before .if1 .left); onward = tt }
 
 walk-down-returns-3 : (t : ℕ) → walk-down-lts.Need-returns-3 (walk-down-calls t) (walk-down-at t) walk-down.Post
-walk-down-returns-3 t c = (refl, (omega (arith, c .if3 .taken), c .before .before .before .before .before .before .pre .1 .2, c .before .before .before .before .before .before .pre .1 .3))
+walk-down-returns-3 t c =
+    let may = c .before .before .before .before .before .before .pre .1 in
+    record { size = refl; onward = (omega (arith, c .if3 .taken), may .fits, may .marked) }
 
 walk-down-visit-requires : (t : ℕ) → walk-down-lts.Need-visit-requires (walk-down-calls t) (walk-down-at t) walk-down.Post
-walk-down-visit-requires t c κs = (c .before .before .before .before .before .before .pre .1 .0, c .before .before .before .before .before .before .pre .1 .1, omega (arith, c .before .before .before .if1 .left), omega (arith, c .before .if2 .left), c .before .before .before .before .before .before .pre .1 .2)
+walk-down-visit-requires t c κs =
+    let may = c .before .before .before .before .before .before .pre .1 in
+    record { size = may .size; counted = may .counted; some = omega (arith, c .before .before .before .if1 .left); allowed = omega (arith, c .before .if2 .left); fits = may .fits }
 
 walk-down-enum-known-r : (t : ℕ) → walk-down-lts.Need-enum-known-r (walk-down-calls t) (walk-down-at t) walk-down.Post
 walk-down-enum-known-r t c = search needs
@@ -71,24 +81,35 @@ walk-down-is-back-requires t c κs = search needs
 
 walk-down-returns-4 : (t : ℕ) → walk-down-lts.Need-returns-4 (walk-down-calls t) (walk-down-at t) walk-down.Post
 walk-down-returns-4 t c =
-    let n = advanced (c .before .before .before .before .before .before .before .before .before .before .before .before .args .size) (c .before .before .before .before .before .before .before .before .before .before .before .before .args .store .now) (c .before .before .before .before .before .before .before .before .before .before .before .before .args .w) _ (c .before .before .before .next .given .1) (c .before .before .before .before .before .visit .ensures .1) in
-    (size-round _ _ _ _ _ (c .before .before .before .before .before .before .before .before .before .before .before .before .pre .1 .3) n (sym (c .before .is-back .ensures) ∙ c .if4 .taken) ∙ ap (visitedSize _ _) (sym (c .before .before .before .next .given .1)) ∙ c .before .before .before .before .before .visit .ensures .0, tt)
+    let at-next = c .before .before .before in
+    let at-visit = at-next .before .before in
+    let at-start = at-visit .before .before .before .before .before .before .before in
+    let n = went-on (at-next .next .given .1) (at-visit .visit .ensures) in
+    record { size = size-round _ _ _ _ _ _ (at-start .pre .1 .marked) (n .passed) (sym (c .before .is-back .ensures) ∙ c .if4 .taken) ∙ n .same; onward = tt }
 
 walk-down-sub-walk-down : (t : ℕ) → walk-down-lts.Need-sub-walk-down (walk-down-calls t) (walk-down-at t) walk-down.Post
 walk-down-sub-walk-down t c = omega (arith, c .before .before .before .before .before .before .if3 .left)
 
 walk-down-walk-down-requires : (t : ℕ) → walk-down-lts.Need-walk-down-requires (walk-down-calls t) (walk-down-at t) walk-down.Post
 walk-down-walk-down-requires t c κs =
-    let n = advanced (c .before .before .before .before .before .before .before .before .before .before .before .before .args .size) (c .before .before .before .before .before .before .before .before .before .before .before .before .args .store .now) (c .before .before .before .before .before .before .before .before .before .before .before .before .args .w) _ (c .before .before .before .next .given .1) (c .before .before .before .before .before .visit .ensures .1) in
-    (omega (arith, n .fewer, c .before .before .before .before .before .before .before .before .before .before .before .before .pre .0), (c .before .before .before .before .before .before .before .before .before .before .before .before .pre .1 .0, c .before .before .before .before .before .before .before .before .before .before .before .before .pre .1 .1, n .sound, marked-next _ _ _ _ _ (c .before .before .before .before .before .before .before .before .before .before .before .before .pre .1 .3) n))
+    let at-next = c .before .before .before in
+    let at-visit = at-next .before .before in
+    let at-start = at-visit .before .before .before .before .before .before .before in
+    let may = at-start .pre .1 in
+    let n = went-on (at-next .next .given .1) (at-visit .visit .ensures) .passed in
+    (omega (arith, n .fewer, at-start .pre .0), record { size = may .size; counted = may .counted; fits = n .fits; marked = marked-next _ _ _ _ _ _ (may .marked) n })
 
 walk-down-returns-5 : (t : ℕ) → walk-down-lts.Need-returns-5 (walk-down-calls t) (walk-down-at t) walk-down.Post
-walk-down-returns-5 t c = (ap (visitedSize _ _) (sym (c .before .r .given .1)) ∙ c .before .before .before .visit .ensures .0, tt)
+walk-down-returns-5 t c =
+    record { size = ap (visitedSize _ _ _) (sym (c .before .r .given .1)) ∙ c .before .before .before .visit .ensures .size; onward = tt }
 
 walk-down-returns-6 : (t : ℕ) → walk-down-lts.Need-returns-6 (walk-down-calls t) (walk-down-at t) walk-down.Post
 walk-down-returns-6 t c =
-    let n = advanced (c .before .before .before .before .before .before .before .before .before .before .before .before .before .args .size) (c .before .before .before .before .before .before .before .before .before .before .before .before .before .args .store .now) (c .before .before .before .before .before .before .before .before .before .before .before .before .before .args .w) _ (c .before .before .before .before .next .given .1) (c .before .before .before .before .before .before .visit .ensures .1) in
-    (c .walk-down .ensures .0 ∙ ap (visitedSize _ _) (sym (c .before .before .before .before .next .given .1)) ∙ c .before .before .before .before .before .before .visit .ensures .0, onward _ _ (c .before .before .before .before .before .before .before .before .before .before .before .before .before .args .mark) (c .before .before .before .before .before .before .before .before .before .before .before .before .before .args .w) (c .before .before .before .before .next .given .0 .0) (c .before .before .before .before .before .before .before .before .before .before .before .before .before .args .nested) (n .fewer) (c .before .before .before .before .before .before .before .if3 .left) (c .walk-down .result) (c .walk-down .ensures .1))
+    let at-next = c .before .before .before .before in
+    let at-visit = at-next .before .before in
+    let n = went-on (at-next .next .given .1) (at-visit .visit .ensures) in
+    let a = at-visit .before .before .before .before .before .before .before .args in
+    record { size = c .walk-down .ensures .size ∙ n .same; onward = onward (a .mark) (a .nested) (n .passed) (at-visit .before .if3 .left) (c .walk-down .result) (c .walk-down .ensures .onward) }
 
 pub +walk-down-spec : {M : Type 1} → statement M
 +walk-down-spec = close μ-walk-down λ t. walk-down-lts.spec (walk-down-calls t)

@@ -38,14 +38,4 @@ returns-2 c = sym (c .before .loop .inv ∙ end-past _ _ (c .loop-test .left))
 
 pub end-of-line-spec : {M : Type 1} → statement M
 end-of-line-spec =
-    tie.close
-    (tie.spec
-    Inv-loop
-    μ-loop
-    loop-holds
-    shared-slice-read-if1
-    returns
-    add-i
-    loop-less
-    loop-again
-    returns-2)
+    tie.close (tie.spec Inv-loop μ-loop loop-holds shared-slice-read-if1 returns add-i loop-less loop-again returns-2)

@@ -14,4 +14,5 @@ unfolding isDigit
 returns-2 c = rw (le-leb 48 _ (c .if1 .left))
 
 pub is-digit-spec : {M : Type 1} → statement M
-is-digit-spec = tie.close (tie.spec returns returns-2)
+is-digit-spec =
+    tie.close (tie.spec returns returns-2)

@@ -9,69 +9,26 @@ use borrow.Author.Needs.{needs}
 use Rattle.listing.proofs.text.put_outcome.Statement.{statement}
 use Rattle.listing.proofs.text.put_outcome.Tie as tie
 
-enum-known-outcome : tie.Need-enum-known-outcome
-enum-known-outcome c = search needs
-
-put-number-requires : tie.Need-put-number-requires
-put-number-requires c κs = search needs
-
-put-number-requires-2 : tie.Need-put-number-requires-2
-put-number-requires-2 c κs = search needs
-
-put-number-requires-3 : tie.Need-put-number-requires-3
-put-number-requires-3 c κs = search needs
-
-enum-known-outcome-2 : tie.Need-enum-known-outcome-2
-enum-known-outcome-2 c = search needs
-
-report-requires : tie.Need-report-requires
-report-requires c κs = search needs
-
-slice-aggregate-put : tie.Need-slice-aggregate-put
-slice-aggregate-put c = search needs
-
-put-requires : tie.Need-put-requires
-put-requires c κs = search needs
-
-cast-put-number : tie.Need-cast-put-number
-cast-put-number c = search needs
-
-put-number-requires-4 : tie.Need-put-number-requires-4
-put-number-requires-4 c κs = search needs
-
-same-length : tie.Need-same-length
-same-length c = search needs
-
 returns : tie.Need-returns
 unfolding outcomeText
 returns c =
-    put-text (put-then (c .before .before .before .before .before .before .before .before .before .before .put-number .ensures) (put-then (c .before .before .before .before .before .before .put-number2 .ensures) (c .before .before .put-number3 .ensures)))
-    (ap (λ (o : Totalled). outcomeText (totalOutcome o)) (sym (c .before .before .before .before .before .before .before .before .before .before .before .before .before .outcome .given .1)))
-
-same-length-2 : tie.Need-same-length-2
-same-length-2 c = search needs
+    let cell = c .before .before .before .before .before .before in
+    let total = cell .before .before .before .before in
+    let matched = total .before .before .before in
+    put-text (put-then (total .put-number .ensures) (put-then (cell .put-number2 .ensures) (c .before .before .put-number3 .ensures)))
+    (ap (λ (o : Totalled). outcomeText (totalOutcome o)) (sym (matched .outcome .given .1)))
 
 returns-2 : tie.Need-returns-2
 unfolding outcomeText
 returns-2 c =
-    put-text (put-then (c .before .before .before .before .before .before .put .ensures) (put-text (c .before .before .put-number4 .ensures) (ap numberText (c .before .before .before .before .before .before .before .before .before .report .ensures .0))))
-    (ap (λ (o : Totalled). outcomeText (totalOutcome o)) (sym (c .before .before .before .before .before .before .before .before .before .before .before .before .outcome2 .given .1)))
+    let word = c .before .before .before .before .before .before in
+    let reported = word .before .before .before in
+    let matched = reported .before .before .before in
+    put-text (put-then (word .put .ensures) (put-text (c .before .before .put-number4 .ensures) (ap numberText (reported .report .ensures .0))))
+    (ap (λ (o : Totalled). outcomeText (totalOutcome o)) (sym (matched .outcome2 .given .1)))
 
 pub put-outcome-spec : {M : Type 1} → statement M
 put-outcome-spec =
     tie.close
-    (tie.spec
-    enum-known-outcome
-    put-number-requires
-    put-number-requires-2
-    put-number-requires-3
-    enum-known-outcome-2
-    report-requires
-    slice-aggregate-put
-    put-requires
-    cast-put-number
-    put-number-requires-4
-    same-length
-    returns
-    same-length-2
-    returns-2)
+    (tie.spec (search needs) (search needs) (search needs) (search needs) (search needs) (search needs) (search needs)
+    (search needs) (search needs) (search needs) (search needs) returns (search needs) returns-2)

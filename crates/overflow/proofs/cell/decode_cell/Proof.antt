@@ -8,31 +8,25 @@ use borrow.Author.Needs.{needs}
 use Rattle.overflow.proofs.cell.decode_cell.Statement.{statement}
 use Rattle.overflow.proofs.cell.decode_cell.Tie as tie
 
-cell-counts-requires : tie.Need-cell-counts-requires
-cell-counts-requires c κs = search needs
-
-enum-known-decoded : tie.Need-enum-known-decoded
-enum-known-decoded c = search needs
-
 copy-hash-requires : tie.Need-copy-hash-requires
-copy-hash-requires c κs = (omega (arith, decoding _ _ (ap decodedOutcome (sym (c .before .before .decoded .given .1)) ∙ c .before .before .before .before .cell-counts .ensures) .long), omega (arith, c .before .before .before .before .before .before .good))
-
-enum-known-decoded-2 : tie.Need-enum-known-decoded-2
-enum-known-decoded-2 c = search needs
+copy-hash-requires c κs =
+    let matched = c .before .before in
+    let counted = matched .before .before in
+    let d = decoding _ _ (ap decodedOutcome (sym (matched .decoded .given .1)) ∙ counted .cell-counts .ensures) in
+    (omega (arith, d .long), omega (arith, counted .before .before .before .good))
 
 returns : tie.Need-returns
-returns c = into-decoded _ _ _ (ap decodedOutcome (sym (c .before .before .before .decoded .given .1)) ∙ c .before .before .before .before .before .cell-counts .ensures) _ (c .copy-hash .ensures)
+returns c =
+    let matched = c .before .before .before in
+    let counted = matched .before .before in
+    rw (← counted .before .bytes .ensures) (into-decoded _ _ _ (ap decodedOutcome (sym (matched .decoded .given .1)) ∙ counted .cell-counts .ensures) (c .copy-hash .ensures))
 
 returns-2 : tie.Need-returns-2
-returns-2 c = into-refused _ _ _ _ (ap decodedOutcome (sym (c .before .decoded2 .given .1)) ∙ c .before .before .before .cell-counts .ensures)
+returns-2 c =
+    let matched = c .before in
+    let counted = matched .before .before in
+    rw (← counted .before .bytes .ensures) (into-refused _ _ _ (ap decodedOutcome (sym (matched .decoded2 .given .1)) ∙ counted .cell-counts .ensures))
 
 pub decode-cell-spec : {M : Type 1} → statement M
 decode-cell-spec =
-    tie.close
-    (tie.spec
-    cell-counts-requires
-    enum-known-decoded
-    copy-hash-requires
-    enum-known-decoded-2
-    returns
-    returns-2)
+    tie.close (tie.spec (search needs) (search needs) (search needs) copy-hash-requires (search needs) returns returns-2)

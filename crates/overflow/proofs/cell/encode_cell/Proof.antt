@@ -7,42 +7,27 @@ use Rattle.overflow.proofs.cell.encode_cell.Statement.{statement}
 use Rattle.overflow.proofs.cell.encode_cell.Tie as tie
 
 returns : tie.Need-returns
-returns c = cell-large _ _ _ _ (c .if1 .taken)
-
-mul-length : tie.Need-mul-length
-mul-length c = search needs
-
-add-length : tie.Need-add-length
-add-length c = search needs
+returns c =
+    let limited = c .before in
+    cell-large _ _ _ _ _ (rw (← limited .before .bytes .ensures, ← limited .max-overflow-value-size .ensures) (c .if1 .taken))
 
 returns-2 : tie.Need-returns-2
-returns-2 c = cell-short _ _ _ _ (c .before .if1 .left) (c .if2 .taken)
-
-write-u64-requires : tie.Need-write-u64-requires
-write-u64-requires c κs = search needs
-
-copy-hash-requires : tie.Need-copy-hash-requires
-copy-hash-requires c κs = search needs
-
-write-numbers-requires : tie.Need-write-numbers-requires
-write-numbers-requires c κs = search needs
-
-same-length : tie.Need-same-length
-same-length c = search needs
+returns-2 c =
+    let limited = c .before .before in
+    cell-short _ _ _ _ _ (rw (← limited .before .bytes .ensures, ← limited .max-overflow-value-size .ensures) (c .before .if1 .left)) (c .if2 .taken)
 
 returns-3 : tie.Need-returns-3
-returns-3 c = cell-written _ _ _ _ (c .before .before .before .before .before .before .before .before .before .before .before .before .before .before .if1 .left) (omega (arith, c .before .before .before .before .before .before .before .before .before .before .before .before .before .before .before .before .before .good)) (c .before .before .before .before .before .before .before .before .before .before .before .before .before .if2 .left) _ _ _ (c .before .before .before .before .before .before .before .before .before .before .before .write-u64 .ensures) (c .before .before .before .before .before .before .copy-hash .ensures) (c .before .before .write-numbers .ensures)
+returns-3 c =
+    let listed = c .before .before in
+    let hashed = listed .before .before .before .before in
+    let sized = hashed .before .before .before .before .before in
+    let room = sized .before .before in
+    let limited = room .before .before in
+    let few = rw (limited .max-overflow-value-size .ensures, limited .before .bytes .ensures) at (room .before .if1 .left) in
+    cell-written _ _ _ _ _ few (omega (arith, limited .before .before .before .before .good)) (room .if2 .left) (sized .write-u64 .ensures) (hashed .copy-hash .ensures) (listed .write-numbers .ensures)
 
 pub encode-cell-spec : {M : Type 1} → statement M
 encode-cell-spec =
     tie.close
-    (tie.spec
-    returns
-    mul-length
-    add-length
-    returns-2
-    write-u64-requires
-    copy-hash-requires
-    write-numbers-requires
-    same-length
-    returns-3)
+    (tie.spec (search needs) (search needs) returns (search needs) (search needs) returns-2 (search needs) (search needs)
+    (search needs) (search needs) returns-3)

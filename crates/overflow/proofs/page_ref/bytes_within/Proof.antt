@@ -9,11 +9,9 @@ use Rattle.overflow.proofs.page_ref.bytes_within.Tie as tie
 returns : tie.Need-returns
 returns c = sym (byte-count-past _ (c .if1 .taken))
 
-byte-count-requires : tie.Need-byte-count-requires
-byte-count-requires c κs = search needs
-
 returns-2 : tie.Need-returns-2
 returns-2 c = c .byte-count .ensures ∙ sym (byte-count-within _ (c .before .if1 .left))
 
 pub bytes-within-spec : {M : Type 1} → statement M
-bytes-within-spec = tie.close (tie.spec returns byte-count-requires returns-2)
+bytes-within-spec =
+    tie.close (tie.spec returns (search needs) returns-2)

@@ -10,25 +10,12 @@ use Rattle.overflow.proofs.page_ref.number_within.Tie as tie
 returns : tie.Need-returns
 returns c = sym (number-past (c .before .before .args .page .now) (c .before .before .args .i) (omega arith))
 
-sub-if2 : tie.Need-sub-if2
-sub-if2 c = search needs
-
 returns-2 : tie.Need-returns-2
 returns-2 c = sym (number-past (c .before .before .before .args .page .now) (c .before .before .before .args .i) (omega arith))
-
-mul-read-u32 : tie.Need-mul-read-u32
-mul-read-u32 c = search needs
-
-add-read-u32 : tie.Need-add-read-u32
-add-read-u32 c = search needs
-
-read-u32-requires : tie.Need-read-u32-requires
-read-u32-requires c κs = search needs
 
 returns-3 : tie.Need-returns-3
 returns-3 c = c .read-u32 .ensures ∙ sym (number-within (c .before .before .before .before .args .page .now) (c .before .before .before .before .args .i) (omega arith))
 
 pub number-within-spec : {M : Type 1} → statement M
 number-within-spec =
-    tie.close
-    (tie.spec returns sub-if2 returns-2 mul-read-u32 add-read-u32 read-u32-requires returns-3)
+    tie.close (tie.spec returns (search needs) returns-2 (search needs) (search needs) (search needs) returns-3)

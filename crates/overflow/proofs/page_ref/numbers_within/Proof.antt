@@ -9,11 +9,9 @@ use Rattle.overflow.proofs.page_ref.numbers_within.Tie as tie
 returns : tie.Need-returns
 returns c = sym (number-count-past _ (c .if1 .taken))
 
-number-count-requires : tie.Need-number-count-requires
-number-count-requires c κs = search needs
-
 returns-2 : tie.Need-returns-2
 returns-2 c = c .number-count .ensures ∙ sym (number-count-within _ (c .before .if1 .left))
 
 pub numbers-within-spec : {M : Type 1} → statement M
-numbers-within-spec = tie.close (tie.spec returns number-count-requires returns-2)
+numbers-within-spec =
+    tie.close (tie.spec returns (search needs) returns-2)

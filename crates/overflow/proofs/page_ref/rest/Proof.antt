@@ -9,20 +9,8 @@ use borrow.Author.Needs.{needs}
 use Rattle.overflow.proofs.page_ref.rest.Statement.{statement}
 use Rattle.overflow.proofs.page_ref.rest.Tie as tie
 
-slice-aggregate-result : tie.Need-slice-aggregate-result
-slice-aggregate-result c = search needs
-
 returns : tie.Need-returns
 returns c = sym (drop-of-length-le (c .before .before .args .page .now) {i = c .before .before .args .from} (omega arith))
-
-sub-result : tie.Need-sub-result
-sub-result c = search needs
-
-part-result-start : tie.Need-part-result-start
-part-result-start c = search needs
-
-part-result-end : tie.Need-part-result-end
-part-result-end c = search needs
 
 returns-2 : tie.Need-returns-2
 returns-2 c =
@@ -32,11 +20,4 @@ returns-2 c =
 
 pub rest-spec : {M : Type 1} → statement M
 rest-spec =
-    tie.close
-    (tie.spec
-    slice-aggregate-result
-    returns
-    sub-result
-    part-result-start
-    part-result-end
-    returns-2)
+    tie.close (tie.spec (search needs) returns (search needs) (search needs) (search needs) returns-2)

@@ -3,7 +3,7 @@
 use native.Mathlib.Omega.{arith}
 use Rattle.page.proofs.PageSizeLaws.{page-least}
 use Rattle.overflow.specs.Totals.{rawPages}
-use borrow.Author.Needs.{needs}
+use Rattle.overflow.proofs.TotalsLaws.{max-size}
 use Rattle.overflow.proofs.total.needed_pages.Statement.{statement}
 use Rattle.overflow.proofs.total.needed_pages.Tie as tie
 
@@ -14,7 +14,7 @@ sub-result : tie.Need-sub-result
 sub-result c = omega (arith, page-least (c .pre .0))
 
 add-result : tie.Need-add-result
-add-result c = search needs
+add-result c = omega (arith, max-size (c .args .page-size))
 
 div-result : tie.Need-div-result
 div-result c = omega (arith, page-least (c .pre .0))
@@ -24,4 +24,5 @@ unfolding rawPages
 returns c = omega arith
 
 pub needed-pages-spec : {M : Type 1} → statement M
-needed-pages-spec = tie.close (tie.spec sub-body sub-result add-result div-result returns)
+needed-pages-spec =
+    tie.close (tie.spec sub-body sub-result add-result div-result returns)

@@ -5,12 +5,10 @@ use borrow.Author.Needs.{needs}
 use Rattle.overflow.proofs.value_page.byte_count.Statement.{statement}
 use Rattle.overflow.proofs.value_page.byte_count.Tie as tie
 
-read-u16-requires : tie.Need-read-u16-requires
-read-u16-requires c κs = search needs
-
 returns : tie.Need-returns
 unfolding byteCount
 returns c = c .read-u16 .ensures
 
 pub byte-count-spec : {M : Type 1} → statement M
-byte-count-spec = tie.close (tie.spec read-u16-requires returns)
+byte-count-spec =
+    tie.close (tie.spec (search needs) returns)

@@ -5,12 +5,10 @@ use borrow.Author.Needs.{needs}
 use Rattle.overflow.proofs.value_page.number_count.Statement.{statement}
 use Rattle.overflow.proofs.value_page.number_count.Tie as tie
 
-read-u16-requires : tie.Need-read-u16-requires
-read-u16-requires c κs = search needs
-
 returns : tie.Need-returns
 unfolding numberCount
 returns c = c .read-u16 .ensures
 
 pub number-count-spec : {M : Type 1} → statement M
-number-count-spec = tie.close (tie.spec read-u16-requires returns)
+number-count-spec =
+    tie.close (tie.spec (search needs) returns)

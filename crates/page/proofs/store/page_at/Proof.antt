@@ -12,7 +12,7 @@ use Rattle.page.proofs.store.page_at.Statement.{statement}
 use Rattle.page.proofs.store.page_at.Tie as tie
 
 -- the end of the page
-within : (c : tie.Start) → c .args .size * c .args .page + c .args .size ≤ length (c .args .store .now)
+within : (c : tie.Start) → c .args .page-size * c .args .page + c .args .page-size ≤ length (c .args .store .now)
 within c = page-within _ _ _ (omega (arith, page-least (c .pre .0))) (c .pre .1)
 
 mul-start : tie.Need-mul-start
@@ -34,7 +34,7 @@ returns : tie.Need-returns
 unfolding pageAt
 returns c =
     let a = c .before .args in
-    let e : a .size * a .page + a .size - a .size * a .page ≡ a .size = omega arith in
+    let e : a .page-size * a .page + a .page-size - a .page-size * a .page ≡ a .page-size = omega arith in
     rw e
 
 pub page-at-spec : {M : Type 1} → statement M

@@ -4,40 +4,62 @@ use Prim.Native.Nat.{ℕ, _+_, _*_, _-_, _≤_, _<_}
 use native.Mathlib.Omega.{arith}
 use native.Mathlib.Numerals.{add-one}
 use mathlib.Core.Path.{_≡_, refl, sym, _∙_}
-use mathlib.Core.Bool.{false, _&&_}
+use mathlib.Core.Bool.{Bool, _&&_}
+use mathlib.Core.List.{List}
 use lib.Dec.{eqb}
 use lib.ListN.{length, length-append}
-use borrow.Author.Tests.{le-leb, lt-leb, eq-eqb, ne-eqb}
 use Rattle.free_list.specs.Shape.{FreeList, isFragmented}
-use Rattle.preallocate.specs.Plan.{pagesAfter, pushedAfter, firstPlan}
-use Rattle.preallocate.specs.Counts.{listed}
-use Rattle.preallocate.proofs.StepsLaws.{times-less}
-use Rattle.preallocate.proofs.FirstLaws.{shaped, mended-pages, after-fewer, after-some, length-pushed}
+use Rattle.preallocate.specs.Plan.{pushedAfter}
+use Rattle.preallocate.specs.Counts.{wholeList}
+use Rattle.preallocate.proofs.ShapedLaws.{times-less, shaped, mended-pages}
+use Rattle.preallocate.proofs.FirstLaws.{after-fewer, after-some, length-pushed, first-none, first-mends, first-empties, first-renumbers}
 use borrow.Author.Needs.{needs}
 use Rattle.preallocate.proofs.plan.first_plan.Statement.{statement}
 use Rattle.preallocate.proofs.plan.first_plan.Tie as tie
 
--- the list, and what the contract says of it
+-- ---- the list, and the push list before the first pop
+
+abbrev start : tie.After-pages-after → tie.Start
+start c = c .before .before .before .before .before
+
 abbrev list : tie.Start → FreeList
-list c = listed (c .args .pages .now) (c .args .entries .now)
+list c = wholeList (c .args .pages .now) (c .args .entries .now)
 
-fewer : (c : tie.Start) → pagesAfter (c .args .c) (list c) (c .args .popped) ≤ length (c .args .pages .now)
-fewer c = after-fewer _ (list c) (c .pre .capacity) (c .pre .shape) (c .args .popped)
+abbrev released : tie.Start → List ℕ
+released c = pushedAfter (c .args .c) (list c) (c .args .popped) (c .args .freed .now)
 
-some : (c : tie.Start) {r : ℕ} → r ≡ pagesAfter (c .args .c) (list c) (c .args .popped) → c .args .popped < length (c .args .entries .now)
-    → eqb (c .args .popped) 0 && isFragmented (c .args .c) (length (c .args .pages .now)) (length (c .args .entries .now)) ≡ false
-    → (0 < r) × (c .args .c * r < length (c .args .entries .now) + c .args .c)
-some c = after-some _ (list c) (c .pre .capacity) (c .pre .shape) (c .args .popped)
+fewer : (c : tie.After-pages-after) → c .pages-after .result ≤ length (start c .args .pages .now)
+fewer c = omega (arith, c .pages-after .ensures, after-fewer _ (list (start c)) (start c .pre .two-entries) (start c .pre .shape) (start c .args .popped))
 
-pushes : (c : tie.Start) → length (pushedAfter (c .args .c) (list c) (c .args .popped) (c .args .freed .now))
-    ≡ length (c .args .freed .now) + (length (c .args .pages .now) - pagesAfter (c .args .c) (list c) (c .args .popped))
-pushes c = length-pushed _ (list c) (c .pre .capacity) (c .pre .shape) (c .args .popped) (c .args .freed .now)
+pushes : (c : tie.After-pages-after) → length (released (start c)) ≡ length (start c .args .freed .now) + (length (start c .args .pages .now) - c .pages-after .result)
+pushes c =
+    omega (
+      arith,
+      c .pages-after .ensures,
+      length-pushed _ (list (start c)) (start c .pre .two-entries) (start c .pre .shape) (start c .args .popped) (start c .args .freed .now),
+    )
+
+-- ---- what the test of the mended list says
+
+abbrev counting : tie.After-mends → tie.After-pages-after
+counting c = c .before .before .before
+
+mended-is : (c : tie.After-mends) {q : Bool} → c .mends .result ≡ q
+    → eqb (start (counting c) .args .popped) 0 && isFragmented (start (counting c) .args .c) (length (start (counting c) .args .pages .now)) (length (start (counting c) .args .entries .now)) ≡ q
+mended-is c e = sym (c .mends .ensures) ∙ e
+
+-- where it is not mended, some page is left, and its room is no more than a page above the entries
+left : (c : tie.Else2) → (0 < counting (c .before) .pages-after .result)
+    × (start (counting (c .before)) .args .c * counting (c .before) .pages-after .result < length (start (counting (c .before)) .args .entries .now) + start (counting (c .before)) .args .c)
+left c =
+    let s = start (counting (c .before)) in
+    after-some _ (list s) (s .pre .two-entries) (s .pre .shape) (s .args .popped) (counting (c .before) .pages-after .ensures) (c .before .before .before .if1 .left) (mended-is (c .before) (c .if2 .left))
 
 pages-after-requires : tie.Need-pages-after-requires
 pages-after-requires c κs = search needs
 
 sub-pushed : tie.Need-sub-pushed
-sub-pushed c = omega (arith, c .pages-after .ensures, fewer (c .before .before .before .before .before))
+sub-pushed c = fewer c
 
 add-pushed : tie.Need-add-pushed
 add-pushed c = search needs
@@ -46,8 +68,10 @@ counted-requires : tie.Need-counted-requires
 counted-requires c κs = search needs
 
 returns : tie.Need-returns
-unfolding firstPlan
-returns c = rw (le-leb _ _ (c .before .if1 .taken)) (rw (c .counted .ensures, c .before .before .pages-after .ensures, pushes (c .before .before .before .before .before .before .before)), refl)
+returns c =
+    rw (first-none _ (list (start (c .before .before))) _ _ _ (c .before .if1 .taken)) (
+    record { counted = c .counted .ensures ∙ rw (pushes (c .before .before)); named = λ b. refl }
+    )
 
 add-last : tie.Need-add-last
 add-last c = search needs
@@ -62,10 +86,10 @@ shared-slice-read-number : tie.Need-shared-slice-read-number
 shared-slice-read-number c = search needs
 
 mends-requires : tie.Need-mends-requires
-mends-requires c κs = omega (arith, c .before .before .before .before .before .before .before, shaped _ _ _ (c .before .before .before .before .before .before .before .pre .shape) .least)
+mends-requires c κs = omega (arith, shaped _ _ _ (start (c .before .before) .pre .shape) .under)
 
 sub-counted : tie.Need-sub-counted
-sub-counted c = let a = c .before .before .before .before .before .before .before .before .before .args in omega (arith, mended-pages (a .c) (length (a .pages .now)) (length (a .entries .now)) (a .popped) (sym (c .before .mends .ensures) ∙ c .if2 .taken))
+sub-counted c = let a = start (counting (c .before)) .args in omega (arith, mended-pages (a .c) (length (a .pages .now)) (length (a .entries .now)) (a .popped) (mended-is (c .before) (c .if2 .taken)))
 
 add-counted : tie.Need-add-counted
 add-counted c = search needs
@@ -74,31 +98,31 @@ counted-requires-2 : tie.Need-counted-requires-2
 counted-requires-2 c κs = search needs
 
 returns-2 : tie.Need-returns-2
-unfolding firstPlan
 returns-2 c =
-    let a = c .before .before .before .before .before .before .before .before .before .before .args in
-    let before = pushedAfter (a .c) (list (c .before .before .before .before .before .before .before .before .before .before)) (a .popped) (a .freed .now) in
-    rw (lt-leb _ _ (c .before .before .before .before .if1 .left), sym (c .before .before .mends .ensures) ∙ c .before .if2 .taken, ← add-one (a .popped))
-    (rw (c .counted2 .ensures, c .before .before .before .before .before .pages-after .ensures, length-append before, pushes (c .before .before .before .before .before .before .before .before .before .before)), refl)
+    let tested = c .before .before in
+    let s = start (counting tested) in
+    rw (first-mends _ (list s) _ _ _ (tested .before .before .if1 .left) (mended-is tested (c .before .if2 .taken)), ← add-one (s .args .popped)) (
+    record { counted = c .counted2 .ensures ∙ rw (length-append (released s), pushes (counting tested)); named = λ b. refl }
+    )
 
 sub-if3 : tie.Need-sub-if3
-sub-if3 c = some (c .before .before .before .before .before .before .before .before .before) (c .before .before .before .before .pages-after .ensures) (c .before .before .before .if1 .left) (sym (c .before .mends .ensures) ∙ c .if2 .left) .0
+sub-if3 c = left c .0
 
 mul-if3 : tie.Need-mul-if3
 mul-if3 c =
-    let t = some (c .before .before .before .before .before .before .before .before .before) (c .before .before .before .before .pages-after .ensures) (c .before .before .before .if1 .left) (sym (c .before .mends .ensures) ∙ c .if2 .left) in
-    omega (arith, c .before .before .before .before .before .before .before .before .before, times-less (c .before .before .before .before .before .before .before .before .before .args .c) (c .before .before .before .before .pages-after .result) (t .0))
+    let at = counting (c .before) in
+    omega (arith, start at, left c .1, times-less (start at .args .c) (at .pages-after .result) (left c .0))
 
 put-requires : tie.Need-put-requires
 put-requires c κs = search needs
 
 under-requires : tie.Need-under-requires
 under-requires c κs =
-    let t = some (c .before .before .before .before .before .before .before .before .before .before .before .before .before .before) (c .before .before .before .before .before .before .before .before .before .pages-after .ensures) (c .before .before .before .before .before .before .before .before .if1 .left) (sym (c .before .before .before .before .before .before .mends .ensures) ∙ c .before .before .before .before .before .if2 .left) in
-    (t .0, omega (arith, c .before .before .before .before .before .before .before .before .before .pages-after .ensures, fewer (c .before .before .before .before .before .before .before .before .before .before .before .before .before .before)))
+    let tested = c .before .before .before .before .before in
+    (left tested .0, fewer (counting (tested .before)))
 
 sub-counted-2 : tie.Need-sub-counted-2
-sub-counted-2 c = some (c .before .before .before .before .before .before .before .before .before .before .before .before .before .before .before) (c .before .before .before .before .before .before .before .before .before .before .pages-after .ensures) (c .before .before .before .before .before .before .before .before .before .if1 .left) (sym (c .before .before .before .before .before .before .before .mends .ensures) ∙ c .before .before .before .before .before .before .if2 .left) .0
+sub-counted-2 c = left (c .before .before .before .before .before .before) .0
 
 add-counted-2 : tie.Need-add-counted-2
 add-counted-2 c = search needs
@@ -110,12 +134,15 @@ same-length : tie.Need-same-length
 same-length c = search needs
 
 returns-3 : tie.Need-returns-3
-unfolding firstPlan
 returns-3 c =
-    let a = c .before .before .before .before .before .before .before .before .before .before .before .before .before .before .before .before .args in
-    let before = pushedAfter (a .c) (list (c .before .before .before .before .before .before .before .before .before .before .before .before .before .before .before .before)) (a .popped) (a .freed .now) in
-    rw (lt-leb _ _ (c .before .before .before .before .before .before .before .before .before .before .if1 .left), sym (c .before .before .before .before .before .before .before .before .mends .ensures) ∙ c .before .before .before .before .before .before .before .if2 .left, ← c .before .before .before .before .before .before .before .before .before .before .before .pages-after .ensures, ← add-one (a .popped), eq-eqb _ _ (c .before .before .before .before .before .before .if3 .taken))
-    (rw (c .counted3 .ensures, c .before .under .ensures, length-append before, pushes (c .before .before .before .before .before .before .before .before .before .before .before .before .before .before .before .before), c .before .before .before .before .before .before .before .before .before .before .before .pages-after .ensures), c .before .before .before .before .put .ensures)
+    let tested = c .before .before .before .before .before .before .before in
+    let at = counting (tested .before) in
+    rw (first-empties _ (list (start at)) _ _ _ (tested .before .before .before .if1 .left) (mended-is (tested .before) (tested .if2 .left)) (rw (← at .pages-after .ensures, ← add-one (start at .args .popped)) (c .before .before .before .before .before .before .if3 .taken)), ← at .pages-after .ensures, ← add-one (start at .args .popped)) (
+    record {
+      counted = c .counted3 .ensures ∙ rw (c .before .under .ensures, length-append (released (start at)), pushes at);
+      named = λ b. c .before .before .before .before .put .ensures;
+    }
+    )
 
 add-counted-3 : tie.Need-add-counted-3
 add-counted-3 c = search needs
@@ -124,40 +151,12 @@ counted-requires-4 : tie.Need-counted-requires-4
 counted-requires-4 c κs = search needs
 
 returns-4 : tie.Need-returns-4
-unfolding firstPlan
 returns-4 c =
-    let a = c .before .before .before .before .before .before .before .before .before .before .before .args in
-    let before = pushedAfter (a .c) (list (c .before .before .before .before .before .before .before .before .before .before .before)) (a .popped) (a .freed .now) in
-    rw (lt-leb _ _ (c .before .before .before .before .before .if1 .left), sym (c .before .before .before .mends .ensures) ∙ c .before .before .if2 .left, ← c .before .before .before .before .before .before .pages-after .ensures, ← add-one (a .popped), ne-eqb _ _ (c .before .if3 .left))
-    (rw (c .counted4 .ensures, length-append before, pushes (c .before .before .before .before .before .before .before .before .before .before .before), c .before .before .before .before .before .before .pages-after .ensures), refl)
+    let tested = c .before .before in
+    let at = counting (tested .before) in
+    rw (first-renumbers _ (list (start at)) _ _ _ (tested .before .before .before .if1 .left) (mended-is (tested .before) (tested .if2 .left)) (rw (← at .pages-after .ensures, ← add-one (start at .args .popped)) (c .before .if3 .left)), ← at .pages-after .ensures, ← add-one (start at .args .popped)) (
+    record { counted = c .counted4 .ensures ∙ rw (length-append (released (start at)), pushes at); named = λ b. refl }
+    )
 
 pub first-plan-spec : {M : Type 1} → statement M
-first-plan-spec =
-    tie.close
-    (tie.spec
-    pages-after-requires
-    sub-pushed
-    add-pushed
-    counted-requires
-    returns
-    add-last
-    sub-last
-    mul-number
-    shared-slice-read-number
-    mends-requires
-    sub-counted
-    add-counted
-    counted-requires-2
-    returns-2
-    sub-if3
-    mul-if3
-    put-requires
-    under-requires
-    sub-counted-2
-    add-counted-2
-    counted-requires-3
-    same-length
-    returns-3
-    add-counted-3
-    counted-requires-4
-    returns-4)
+first-plan-spec = tie.close (tie.spec pages-after-requires sub-pushed add-pushed counted-requires returns add-last sub-last mul-number shared-slice-read-number mends-requires sub-counted add-counted counted-requires-2 returns-2 sub-if3 mul-if3 put-requires under-requires sub-counted-2 add-counted-2 counted-requires-3 same-length returns-3 add-counted-3 counted-requires-4 returns-4)

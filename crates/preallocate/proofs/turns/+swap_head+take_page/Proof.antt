@@ -2,7 +2,7 @@
 -- and the room that is missing. Each call's `Planned` becomes that of the caller by one law of `StepsLaws`. Assumes nothing.
 use native.Mathlib.Omega.{arith}
 use mathlib.Core.Path.{sym, _∙_}
-use Rattle.preallocate.specs.Counts.{listed}
+use Rattle.preallocate.specs.Counts.{wholeList}
 use Rattle.preallocate.specs.Steps.{work}
 use Rattle.preallocate.proofs.StepsLaws.{whole-entries, room-fits, done, then-swapped, swapped-ready, Along, along-start, along-more, along-first}
 use Prim.Native.Nat.{ℕ, _<_}
@@ -49,82 +49,114 @@ abbrev take-page-calls : ℕ → take-page-lts.Claims
 take-page-calls t = (take-one-reads.Asked, take-one-reads.Learnt, room-reads.Asked, room-reads.Learnt, whole-reads.Asked, whole-reads.Learnt, swap-head-below t, swap-head.Post)
 
 swap-head-sub-last : (t : ℕ) → swap-head-lts.Need-sub-last (swap-head-calls t) (swap-head-at t) swap-head.Post
-swap-head-sub-last t c = whole-entries (c .before .before .before .before .pre .1 .0) (c .before .before .before .before .pre .1 .3)
+swap-head-sub-last t c = let s = c .before .before .before .before .pre .1 in whole-entries (s .0 .packed) (s .1)
 
 swap-head-add-t8 : (t : ℕ) → swap-head-lts.Need-add-t8 (swap-head-calls t) (swap-head-at t) swap-head.Post
-swap-head-add-t8 t c = omega (arith, c .before .before .before .before .before .pre .1 .1)
+swap-head-add-t8 t c = omega (arith, c .before .before .before .before .before .pre .1 .0 .small)
 
 swap-head-mul-t9 : (t : ℕ) → swap-head-lts.Need-mul-t9 (swap-head-calls t) (swap-head-at t) swap-head.Post
 swap-head-mul-t9 t c = omega (arith, c .before .before .before .before .before)
 
 swap-head-shared-slice-read-t11 : (t : ℕ) → swap-head-lts.Need-shared-slice-read-t11 (swap-head-calls t) (swap-head-at t) swap-head.Post
-swap-head-shared-slice-read-t11 t c = omega (arith, c .before .before .before .before .before .before, whole-entries (c .before .before .before .before .before .before .pre .1 .0) (c .before .before .before .before .before .before .pre .1 .3))
+swap-head-shared-slice-read-t11 t c =
+    let s = c .before .before .before .before .before .before in
+    omega (arith, s .pre .1 .0 .packed, whole-entries (s .pre .1 .0 .packed) (s .pre .1 .1))
 
 swap-head-take-page-requires : (t : ℕ) → swap-head-lts.Need-take-page-requires (swap-head-calls t) (swap-head-at t) swap-head.Post
 swap-head-take-page-requires t c κs =
     let s = c .before .before .before .before .before .before .before .pre in
-    let r = swapped-ready (s .1 .0) (s .1 .2) (s .1 .1) (s .1 .3) in
+    let r = swapped-ready (s .1 .0 .packed) (s .1 .0 .short) (s .1 .0 .small) (s .1 .1) in
     (omega (arith, s .0, r .0), r .1)
 
 swap-head-same-length : (t : ℕ) → swap-head-lts.Need-same-length (swap-head-calls t) (swap-head-at t) swap-head.Post
 swap-head-same-length t c = c .before .before .take-page .kept .1 .1 .1 .0
 
 swap-head-returns : (t : ℕ) → swap-head-lts.Need-returns (swap-head-calls t) (swap-head-at t) swap-head.Post
-swap-head-returns t c = let s = c .before .before .before .before .before .before .before .before .before .before in then-swapped (s .pre .1 .0) (s .pre .1 .2) _ _ _ (s .pre .1 .3) (c .before .before .take-page .ensures)
+swap-head-returns t c =
+    let called = c .before .before in
+    let s = called .before .before .before .before .before .before .before .before .pre .1 in
+    then-swapped (s .0 .packed) (s .0 .short) _ _ _ (s .1) (called .take-page .ensures)
 
 -- what the loop has done so far is a part of the run
 abbrev take-page-Inv-loop : take-page-lts.InvT-loop
-take-page-Inv-loop c pages entries out₀ q₀ out q = Along c (listed pages entries) q₀ out₀ q out
+take-page-Inv-loop c pages entries out₀ q₀ out q = Along c (wholeList pages entries) q₀ out₀ q out
 
 abbrev take-page-μ-loop : take-page-lts.MeasureT-loop
 take-page-μ-loop c pages entries out₀ q₀ out q = work c q
 
 take-page-take-one-requires : (t : ℕ) → take-page-lts.Need-take-one-requires (take-page-calls t) (take-page-at t) take-page.Post take-page-Inv-loop take-page-μ-loop
-take-page-take-one-requires t c κs = let s = c .before .before .before .before .pre .1 in (s .0, s .1, s .2)
+take-page-take-one-requires t c κs = c .before .before .before .before .pre .1 .0
 
 take-page-loop-holds : (t : ℕ) → take-page-lts.Need-loop-holds (take-page-calls t) (take-page-at t) take-page.Post take-page-Inv-loop take-page-μ-loop
-take-page-loop-holds t c = let f = along-first (c .before .before .before .before .before .before .before .pre .1) (c .before .before .take-one .ensures) (c .before .before .take-one .kept .1 .1 .1 .0) .1 in along-start (f .sound) (f .small)
+take-page-loop-holds t c =
+    let took = c .before .before in
+    let s = took .before .before .before .before .before .pre .1 in
+    let f = along-first (s .0) (s .1) (took .take-one .ensures) (took .take-one .kept .1 .1 .1 .0) .1 in
+    along-start (f .packed) (f .small)
 
 take-page-room-requires : (t : ℕ) → take-page-lts.Need-room-requires (take-page-calls t) (take-page-at t) take-page.Post take-page-Inv-loop take-page-μ-loop
-take-page-room-requires t c κs = room-fits (c .loop .inv .sound) (c .loop .inv .small)
+take-page-room-requires t c κs = room-fits (c .loop .inv .packed) (c .loop .inv .small)
 
 take-page-whole-requires : (t : ℕ) → take-page-lts.Need-whole-requires (take-page-calls t) (take-page-at t) take-page.Post take-page-Inv-loop take-page-μ-loop
 take-page-whole-requires t c κs = omega (arith, c .before .before .before .loop .inv .small)
 
 take-page-swap-head-requires : (t : ℕ) → take-page-lts.Need-swap-head-requires (take-page-calls t) (take-page-at t) take-page.Post take-page-Inv-loop take-page-μ-loop
 take-page-swap-head-requires t c κs =
-    let f = along-first (c .before .before .before .before .before .before .before .before .before .before .before .before .before .before .pre .1) (c .before .before .before .before .before .before .before .before .before .take-one .ensures) (c .before .before .before .before .before .before .before .before .before .take-one .kept .1 .1 .1 .0) .0 in
-    let inv = c .before .before .before .before .before .before .loop .inv in
-    (omega (arith, c .before .before .before .before .before .before .before .before .before .before .before .before .before .before .pre .0, inv .less), (inv .sound, inv .small, omega (arith, c .before .before .before .if1 .taken, c .before .before .before .before .before .room .ensures), sym (c .before .before .whole .ensures) ∙ c .before .if2 .taken))
+    let looped = c .before .before .before .before .before .before in
+    let took = looped .before .before .before in
+    let s = took .before .before .before .before .before .pre in
+    let f = along-first (s .1 .0) (s .1 .1) (took .take-one .ensures) (took .take-one .kept .1 .1 .1 .0) .0 in
+    let inv = looped .loop .inv in (
+      omega (arith, s .0, inv .less),
+      (
+        record { packed = inv .packed; small = inv .small; short = omega (arith, c .before .before .before .if1 .taken, c .before .before .before .before .before .room .ensures) },
+        sym (c .before .before .whole .ensures) ∙ c .before .if2 .taken,
+      ),
+    )
 
 take-page-same-length : (t : ℕ) → take-page-lts.Need-same-length (take-page-calls t) (take-page-at t) take-page.Post take-page-Inv-loop take-page-μ-loop
-take-page-same-length t c = c .before .before .swap-head .kept .1 .1 .1 .0 ∙ c .before .before .before .before .before .before .before .before .before .loop .inv .same ∙ c .before .before .before .before .before .before .before .before .before .before .before .before .take-one .kept .1 .1 .1 .0
+take-page-same-length t c =
+    let called = c .before .before in
+    let looped = called .before .before .before .before .before .before .before in
+    called .swap-head .kept .1 .1 .1 .0 ∙ looped .loop .inv .same ∙ looped .before .before .before .take-one .kept .1 .1 .1 .0
 
 take-page-returns : (t : ℕ) → take-page-lts.Need-returns (take-page-calls t) (take-page-at t) take-page.Post take-page-Inv-loop take-page-μ-loop
 take-page-returns t c =
-    along-first (c .before .before .before .before .before .before .before .before .before .before .before .before .before .before .before .before .before .pre .1) (c .before .before .before .before .before .before .before .before .before .before .before .before .take-one .ensures) (c .before .before .before .before .before .before .before .before .before .before .before .before .take-one .kept .1 .1 .1 .0) .1 .planned _ _
-    (c .before .before .before .before .before .before .before .before .before .loop .inv .planned _ _ (c .before .before .swap-head .ensures))
+    let called = c .before .before in
+    let looped = called .before .before .before .before .before .before .before in
+    let took = looped .before .before .before in
+    let s = took .before .before .before .before .before .pre .1 in
+    along-first (s .0) (s .1) (took .take-one .ensures) (took .take-one .kept .1 .1 .1 .0) .1 .planned _ _ (looped .loop .inv .planned _ _ (called .swap-head .ensures))
 
 take-page-take-one-requires-2 : (t : ℕ) → take-page-lts.Need-take-one-requires-2 (take-page-calls t) (take-page-at t) take-page.Post take-page-Inv-loop take-page-μ-loop
-take-page-take-one-requires-2 t c κs = let inv = c .before .before .before .before .before .before .loop .inv in (inv .sound, inv .small, omega (arith, c .before .before .before .if1 .taken, c .before .before .before .before .before .room .ensures))
+take-page-take-one-requires-2 t c κs =
+    let inv = c .before .before .before .before .before .before .loop .inv in
+    record { packed = inv .packed; small = inv .small; short = omega (arith, c .before .before .before .if1 .taken, c .before .before .before .before .before .room .ensures) }
 
 take-page-loop-less : (t : ℕ) → take-page-lts.Need-loop-less (take-page-calls t) (take-page-at t) take-page.Post take-page-Inv-loop take-page-μ-loop
 take-page-loop-less t c =
-    let d = c .before .before .take-one2 in
-    along-more (c .before .before .before .before .before .before .before .before .before .loop .inv) (omega (arith, c .before .before .before .before .before .before .if1 .taken, c .before .before .before .before .before .before .before .before .room .ensures)) (sym (c .before .before .before .before .before .whole .ensures) ∙ c .before .before .before .before .if2 .left) (d .ensures .0) (d .ensures .1) (d .kept .1 .1 .1 .0) .0
+    let called = c .before .before in
+    let tested = called .before .before .before .before in
+    along-more (tested .before .before .before .loop .inv) (omega (arith, tested .if1 .taken, tested .before .before .room .ensures)) (sym (called .before .before .before .whole .ensures) ∙ called .before .before .if2 .left)
+    (called .take-one2 .ensures) (called .take-one2 .kept .1 .1 .1 .0) .0
 
 take-page-loop-again : (t : ℕ) → take-page-lts.Need-loop-again (take-page-calls t) (take-page-at t) take-page.Post take-page-Inv-loop take-page-μ-loop
 take-page-loop-again t c =
-    let d = c .before .before .take-one2 in
-    along-more (c .before .before .before .before .before .before .before .before .before .loop .inv) (omega (arith, c .before .before .before .before .before .before .if1 .taken, c .before .before .before .before .before .before .before .before .room .ensures)) (sym (c .before .before .before .before .before .whole .ensures) ∙ c .before .before .before .before .if2 .left) (d .ensures .0) (d .ensures .1) (d .kept .1 .1 .1 .0) .1
+    let called = c .before .before in
+    let tested = called .before .before .before .before in
+    along-more (tested .before .before .before .loop .inv) (omega (arith, tested .if1 .taken, tested .before .before .room .ensures)) (sym (called .before .before .before .whole .ensures) ∙ called .before .before .if2 .left)
+    (called .take-one2 .ensures) (called .take-one2 .kept .1 .1 .1 .0) .1
 
 take-page-same-length-2 : (t : ℕ) → take-page-lts.Need-same-length-2 (take-page-calls t) (take-page-at t) take-page.Post take-page-Inv-loop take-page-μ-loop
 take-page-same-length-2 t c = c .before .before .before .loop .inv .same ∙ c .before .before .before .before .before .before .take-one .kept .1 .1 .1 .0
 
 take-page-returns-2 : (t : ℕ) → take-page-lts.Need-returns-2 (take-page-calls t) (take-page-at t) take-page.Post take-page-Inv-loop take-page-μ-loop
 take-page-returns-2 t c =
-    along-first (c .before .before .before .before .before .before .before .before .before .before .before .pre .1) (c .before .before .before .before .before .before .take-one .ensures) (c .before .before .before .before .before .before .take-one .kept .1 .1 .1 .0) .1 .planned _ _
-    (c .before .before .before .loop .inv .planned _ _ (done _ _ _ _ (omega (arith, c .if1 .left, c .before .before .room .ensures))))
+    let looped = c .before .before .before in
+    let took = looped .before .before .before in
+    let s = took .before .before .before .before .before .pre .1 in
+    along-first (s .0) (s .1) (took .take-one .ensures) (took .take-one .kept .1 .1 .1 .0) .1 .planned _ _
+    (looped .loop .inv .planned _ _ (done _ _ _ _ (omega (arith, c .if1 .left, c .before .before .room .ensures))))
 
 pub +swap-head+take-page-spec : {M : Type 1} → statement M
 +swap-head+take-page-spec = close μ-swap-head μ-take-page (λ t. swap-head-lts.spec (swap-head-calls t)

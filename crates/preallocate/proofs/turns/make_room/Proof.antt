@@ -2,13 +2,21 @@
 -- Assumes nothing.
 use native.Mathlib.Omega.{arith}
 use mathlib.Core.Path.{sym, _∙_}
+use Rattle.preallocate.specs.Counts.{wholeList}
+use Rattle.preallocate.specs.Steps.{Due}
 use Rattle.preallocate.proofs.StepsLaws.{room-fits, done}
 use borrow.Author.Needs.{needs}
 use Rattle.preallocate.proofs.turns.make_room.Statement.{statement}
 use Rattle.preallocate.proofs.turns.make_room.Tie as tie
 
+-- a turn is due
+due : (c : tie.Else1) → let s = c .before .before .before .before .before .before in Due (s .args .c) (wholeList (s .args .pages .now) (s .args .entries .now)) (s .args .p)
+due c =
+    let s = c .before .before .before .before .before .before .pre in
+    record { packed = s .0; small = s .1; short = omega (arith, c .if1 .left, c .before .before .room .ensures) }
+
 room-requires : tie.Need-room-requires
-room-requires c κs = room-fits (c .before .before .before .pre .0) (c .before .before .before .pre .1)
+room-requires c κs = let s = c .before .before .before .pre in room-fits (s .0) (s .1)
 
 returns : tie.Need-returns
 returns c = done _ _ _ _ (omega (arith, c .if1 .taken, c .before .before .room .ensures))
@@ -17,10 +25,10 @@ whole-requires : tie.Need-whole-requires
 whole-requires c κs = search needs
 
 swap-head-requires : tie.Need-swap-head-requires
-swap-head-requires c κs = let s = c .before .before .before .before .before .before .before .before .before .pre in (s .0, s .1, omega (arith, c .before .before .before .if1 .left, c .before .before .before .before .before .room .ensures), sym (c .before .before .whole .ensures) ∙ c .before .if2 .taken)
+swap-head-requires c κs = (due (c .before .before .before), sym (c .before .before .whole .ensures) ∙ c .before .if2 .taken)
 
 take-page-requires : tie.Need-take-page-requires
-take-page-requires c κs = let s = c .before .before .before .before .before .before .before .before .before .pre in (s .0, s .1, omega (arith, c .before .before .before .if1 .left, c .before .before .before .before .before .room .ensures), sym (c .before .before .whole .ensures) ∙ c .before .if2 .left)
+take-page-requires c κs = (due (c .before .before .before), sym (c .before .before .whole .ensures) ∙ c .before .if2 .left)
 
 same-length : tie.Need-same-length
 same-length c = search needs
@@ -35,15 +43,4 @@ returns-3 : tie.Need-returns-3
 returns-3 c = search needs
 
 pub make-room-spec : {M : Type 1} → statement M
-make-room-spec =
-    tie.close
-    (tie.spec
-    room-requires
-    returns
-    whole-requires
-    swap-head-requires
-    take-page-requires
-    same-length
-    returns-2
-    same-length-2
-    returns-3)
+make-room-spec = tie.close (tie.spec room-requires returns whole-requires swap-head-requires take-page-requires same-length returns-2 same-length-2 returns-3)

@@ -22,7 +22,11 @@ same-length : tie.Need-same-length
 same-length c = search needs
 
 returns : tie.Need-returns
-returns c = (refl, λ b. let l = c .before .before .before .before .before .low .ensures (omega arith) in cc (c .before .before .before .before .put .ensures))
+returns c =
+    record {
+      counted = refl;
+      named = λ b. let l = c .before .before .before .before .before .low .ensures (omega arith) in cc (c .before .before .before .before .put .ensures);
+    }
 
 pub take-bump-spec : {M : Type 1} → statement M
 take-bump-spec = tie.close (tie.spec low-requires put-requires add-t7 add-t8 same-length returns)

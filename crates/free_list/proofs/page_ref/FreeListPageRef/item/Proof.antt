@@ -5,7 +5,7 @@ use denote.Triple.Spec.{tripleOf}
 use denote.Triple.Table.{entered, cited}
 use Rattle.held.proofs.Holders.{OfSliceAt}
 use Rattle.held.proofs.HeldLaws.{place-method-meets}
-use Rattle.free_list.proofs.HeldPages.{listPage, number, entrySays}
+use Rattle.free_list.proofs.PageRefs.{listPage, number, entrySays}
 use Rattle.free_list.proofs.page_ref.item_within.Symbol as item-within-def
 use Rattle.free_list.proofs.page_ref.item_within.Symbol.{name as #item-within}
 use Rattle.free_list.proofs.page_ref.item_within.Met as item-within-thm

@@ -5,7 +5,7 @@ use denote.Triple.Spec.{tripleOf}
 use denote.Triple.Table.{entered, cited}
 use Rattle.held.proofs.Holders.{OfSlice}
 use Rattle.held.proofs.HeldLaws.{method-meets}
-use Rattle.free_list.proofs.HeldPages.{listPage, count, countSays}
+use Rattle.free_list.proofs.PageRefs.{listPage, count, countSays}
 use Rattle.free_list.proofs.page_ref.count_within.Symbol as count-within-def
 use Rattle.free_list.proofs.page_ref.count_within.Symbol.{name as #count-within}
 use Rattle.free_list.proofs.page_ref.count_within.Met as count-within-thm

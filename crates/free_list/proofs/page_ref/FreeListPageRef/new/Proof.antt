@@ -4,7 +4,7 @@ use contract.Running.{givenOf, tables, tablesOf}
 use denote.Triple.Spec.{tripleOf}
 use denote.Triple.Table.{entered}
 use Rattle.held.proofs.HeldLaws.{new-meets}
-use Rattle.free_list.proofs.HeldPages.{listPage}
+use Rattle.free_list.proofs.PageRefs.{listPage}
 use Rattle.free_list.proofs.page_ref.FreeListPageRef.new.Key.{name as #new}
 use Rattle.free_list.proofs.page_ref.FreeListPageRef.new as new
 use Rattle.free_list.proofs.page_ref.FreeListPageRef.new.Statement.{statement}

@@ -5,7 +5,7 @@ use denote.Triple.Spec.{tripleOf}
 use denote.Triple.Table.{entered, cited}
 use Rattle.held.proofs.Holders.{OfSlice}
 use Rattle.held.proofs.HeldLaws.{method-meets}
-use Rattle.free_list.proofs.HeldPages.{listPage, number, prevSays}
+use Rattle.free_list.proofs.PageRefs.{listPage, number, prevSays}
 use Rattle.free_list.proofs.page_ref.prev_within.Symbol as prev-within-def
 use Rattle.free_list.proofs.page_ref.prev_within.Symbol.{name as #prev-within}
 use Rattle.free_list.proofs.page_ref.prev_within.Met as prev-within-thm

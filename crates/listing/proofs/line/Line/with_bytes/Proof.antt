@@ -4,8 +4,8 @@ use Prim.Native.Nat.{_-_}
 use mathlib.Core.Path.{_≡_, refl, sym, _∙_}
 use native.Mathlib.Omega.{arith}
 use lib.ListN.{length, drop}
-use Rattle.listing.specs.Kept.{withBytes}
-use Rattle.listing.proofs.KeptLaws.{withBytes-at, withBytes-past}
+use Rattle.listing.specs.Accumulated.{withBytes}
+use Rattle.listing.proofs.AccumulatedLaws.{withBytes-at, withBytes-past}
 use Rattle.listing.proofs.line.Line.with_bytes.Statement.{statement}
 use Rattle.listing.proofs.line.Line.with_bytes.Tie as tie
 
@@ -39,13 +39,4 @@ returns c = sym (c .before .loop .inv ∙ withBytes-past _ _ _ (c .loop-test .le
 pub with-bytes-spec : {M : Type 1} → statement M
 with-bytes-spec =
     tie.close
-    (tie.spec
-    Inv-loop
-    μ-loop
-    loop-holds
-    shared-slice-read-with-byte
-    with-byte-requires
-    add-i
-    loop-less
-    loop-again
-    returns)
+    (tie.spec Inv-loop μ-loop loop-holds shared-slice-read-with-byte with-byte-requires add-i loop-less loop-again returns)

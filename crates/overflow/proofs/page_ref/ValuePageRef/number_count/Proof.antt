@@ -5,7 +5,7 @@ use denote.Triple.Spec.{tripleOf}
 use denote.Triple.Table.{entered, cited}
 use Rattle.held.proofs.Holders.{OfSlice}
 use Rattle.held.proofs.HeldLaws.{method-meets}
-use Rattle.overflow.proofs.HeldPages.{valuePage, count, numbersSays}
+use Rattle.overflow.proofs.PageRefs.{heldValuePage, count, numbersSays}
 use Rattle.overflow.proofs.page_ref.numbers_within.Symbol as numbers-within-def
 use Rattle.overflow.proofs.page_ref.numbers_within.Symbol.{name as #numbers-within}
 use Rattle.overflow.proofs.page_ref.numbers_within.Met as numbers-within-thm
@@ -19,5 +19,5 @@ unfolding code.routine tablesOf
 number-count-spec 𝓤 H 𝓜 𝓖 𝓡 =
     entered 𝓤 H (tripleOf 𝓤 H (𝓖 .A) number-count.signature (number-count.spec 𝓤 H (𝓖 .A) (𝓜 .mem) (𝓡 .run)))
     (tables 𝓤 H 𝓜 𝓡 code.env .C) (tables 𝓤 H 𝓜 𝓡 code.env .Λ) #number-count code.function (code.unfolded 𝓤 H 𝓜 𝓡)
-    (method-meets 𝓤 H (𝓖 .A) (givenOf 𝓤 H 𝓜 𝓖) valuePage count numbersSays #numbers-within (tablesOf 𝓤 H 𝓜 (tables 𝓤 H 𝓜 𝓡 code.env))
+    (method-meets 𝓤 H (𝓖 .A) (givenOf 𝓤 H 𝓜 𝓖) heldValuePage count numbersSays #numbers-within (tablesOf 𝓤 H 𝓜 (tables 𝓤 H 𝓜 𝓡 code.env))
     (cited 𝓤 H (OfSlice 𝓤 H (𝓖 .A) count numbersSays) 𝓜 𝓡 code.env #numbers-within numbers-within-def.routine code.calls-overflow·page-ref·numbers-within (numbers-within-thm.met 𝓤 H 𝓜 𝓖 𝓡)))

@@ -1,0 +1,92 @@
+-- The finish: its two ways, and what one that answers has passed.
+-- By its tests, one after another. Assumes nothing.
+use Prim.Native.Nat.{ℕ, _*_, min, _≤_}
+use mathlib.Core.Path.{_≡_, refl, subst}
+use mathlib.Core.Bool.{true, false, _&&_}
+use mathlib.Core.List.{List, [], _∷_}
+use lib.Dec.{leb, eqb}
+use lib.ListN.{length, take}
+use lib.Seq.{length-take-le}
+use native.Mathlib.Omega.{arith}
+use borrow.Author.Tests.{leb-true, eqb-true}
+use Rattle.refusal.specs.Outcome.{answer}
+use Rattle.refusal.proofs.OutcomeLaws.{unanswer, check-answer}
+use Rattle.laws.proofs.Tests.{cond-cases, and-true}
+use Rattle.page.specs.PageSize.{IsPageSize, capacity}
+use Rattle.page.specs.Growth.{maxBump}
+use Rattle.preallocate.proofs.PlanLaws.{plan-bump}
+use Rattle.allocator.specs.OpenSave.{Save, listOf, bumped, stateFits}
+use Rattle.allocator.proofs.SaveLaws.{Stands, stands as standing}
+use Rattle.finisher.specs.Finish.{Finished, firstBad, carriedOut, finishList, finished, finish}
+use Rattle.finisher.specs.Steps.{popped, unchanged, planFor}
+
+-- ---- the two ways of a finish
+
+module _ {s : ℕ} {v : Save} (st : Stands s v) where
+  pops-are : min (v .handed) (length (take (v .L) (v .entryTable))) ≡ popped v
+  pops-are = rw (length-take-le (v .L) (v .entryTable) (st .entries-fit))
+
+  pub finished-same : (freed : List ℕ) → unchanged v freed ≡ true → finished s v freed ≡ record { list = listOf v; bump = bumped v; written = [] }
+  unfolding finished finishList
+  finished-same freed e = rw (pops-are, e)
+
+  pub finished-changed : (freed : List ℕ) → unchanged v freed ≡ false → finished s v freed ≡ carriedOut s (listOf v) (planFor s v freed)
+  unfolding finished finishList
+  finished-changed freed e = rw (pops-are, e)
+
+-- the bump is not lowered
+pub bump-raised : {s : ℕ} {v : Save} (freed : List ℕ) → IsPageSize s → Stands s v → bumped v ≤ finished s v freed .bump
+unfolding finished finishList carriedOut
+bump-raised {s} {v} freed size st =
+    let k = min (v .handed) (length (take (v .L) (v .entryTable))) in
+    let many = length-take-le (v .P) (v .pageTable) (st .pages-fit) in
+    let all = length-take-le (v .L) (v .entryTable) (st .entries-fit) in
+    cond-cases (λ (f : Finished). bumped v ≤ f .bump) (eqb k 0 && eqb (length freed) 0) _ _ (λ e. omega arith)
+    (λ e. plan-bump (capacity s) (listOf v) (size .two-entries) (rw (many, all) (st .shape)) k freed (bumped v))
+
+-- ---- a finish that succeeds
+
+-- what its refusals tell
+pub record Succeeds (s : ℕ) (v : Save) (freed : List ℕ) (f : Finished) : Type 0 where
+  pub state : stateFits s v ≡ true
+  pub stands : Stands s v
+  pub is : f ≡ finished s v freed
+  pub limit : f .bump ≤ maxBump
+  pub good : firstBad (bumped v) freed ≡ length freed
+
+-- and the room that it was lent
+pub record Room (s : ℕ) (v : Save) (f : Finished) (bytesLent numbersLent : ℕ) : Type 0 where
+  pub bytes : s * length (f .written) ≤ bytesLent
+  pub numbers : length (f .written) ≤ numbersLent
+  pub pages : length (f .list .pages) ≤ length (v .pageTable)
+  pub entries : length (f .list .entries) ≤ length (v .entryTable)
+
+pub succeeds : (s : ℕ) (v : Save) (freed : List ℕ) (bytesLent numbersLent : ℕ) (f : Finished) → finish s v freed bytesLent numbersLent ≡ answer f
+    → Succeeds s v freed f × Room s v f bytesLent numbersLent
+unfolding finish
+succeeds s v freed bytesLent numbersLent f e =
+    let g = finished s v freed in
+    let bad = firstBad (bumped v) freed in
+    let a = check-answer (stateFits s v) 1 [] _ e in
+    let b = check-answer (leb (g .bump) maxBump) 7 [] _ (a .1) in
+    let c = check-answer (eqb bad (length freed)) 8 (bad ∷ []) _ (b .1) in
+    let d = check-answer (leb (length (g .list .pages)) (length (v .pageTable)) && leb (length (g .list .entries)) (length (v .entryTable))) 6 [] _ (c .1) in
+    let h = check-answer (leb (s * length (g .written)) bytesLent && leb (length (g .written)) numbersLent) 9 [] (answer g) (d .1) in
+    let t = and-true (leb (length (g .list .pages)) (length (v .pageTable))) _ (d .0) in
+    let u = and-true (leb (s * length (g .written)) bytesLent) _ (h .0) in
+    let same : g ≡ f = unanswer (h .1) in
+    subst (λ (x : Finished). Succeeds s v freed x × Room s v x bytesLent numbersLent) same (
+      record {
+        state = a .0;
+        stands = standing s v (a .0);
+        is = refl;
+        limit = leb-true (g .bump) maxBump (b .0);
+        good = eqb-true bad (length freed) (c .0);
+      },
+      record {
+        bytes = leb-true _ bytesLent (u .0);
+        numbers = leb-true _ numbersLent (u .1);
+        pages = leb-true _ (length (v .pageTable)) (t .0);
+        entries = leb-true _ (length (v .entryTable)) (t .1);
+      },
+    )

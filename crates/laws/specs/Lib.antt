@@ -1,0 +1,2 @@
+-- How often a number occurs (`Counting`).
+pub mod Counting

@@ -1,3 +1,0 @@
--- Laws that the proofs of this crate share.
-pub mod OutcomeLaws
-pub mod SavesLaws

@@ -1,2 +1,0 @@
--- Handing out where the save stands.
-pub mod CountUp

@@ -1,0 +1,84 @@
+-- `take_entry` meets its contract: at each return the tests that led there say which case of `taken` and `named` holds.
+-- Assumes nothing.
+use Prim.Native.Nat.{_+_, _^_, _<_, _≤_}
+use native.Mathlib.Omega.{arith}
+use native.Mathlib.Numerals.{add-one}
+use mathlib.Core.Path.{_∙_}
+use borrow.Author.Tests.{le-leb, eq-eqb, ne-eqb}
+use Rattle.preallocate.specs.Steps.{taken, named}
+use Rattle.preallocate.proofs.ShapedLaws.{times-less}
+use Rattle.preallocate.proofs.StepsLaws.{pages-positive, fresh-small}
+use borrow.Author.Needs.{needs}
+use Rattle.preallocate.proofs.turns.take_entry.Statement.{statement}
+use Rattle.preallocate.proofs.turns.take_entry.Tie as tie
+
+-- the start, seen from the first store and from the test behind it
+abbrev start : tie.After-put → tie.Start
+start c = c .before .before .before .before .before .before .before
+
+some-pages : (c : tie.Start) → 1 ≤ c .args .p .pages
+some-pages c = pages-positive (c .pre .0 .packed) (c .pre .1)
+
+few-fresh : (c : tie.Start) → c .args .p .fresh + 2 < 2 ^ 64
+few-fresh c = let d = c .pre .0 in fresh-small (d .packed) (d .small) (d .short)
+
+sub-last : tie.Need-sub-last
+sub-last c = search needs
+
+mul-put : tie.Need-mul-put
+mul-put c = search needs
+
+shared-slice-read-put : tie.Need-shared-slice-read-put
+shared-slice-read-put c = search needs
+
+put-requires : tie.Need-put-requires
+put-requires c κs = search needs
+
+sub-if1 : tie.Need-sub-if1
+sub-if1 c = some-pages (start (c .before .before .before))
+
+mul-if1 : tie.Need-mul-if1
+mul-if1 c =
+    let s = start (c .before .before .before) in
+    omega (arith, s .pre .0 .small, times-less (s .args .c) (s .args .p .pages) (some-pages s))
+
+add-put : tie.Need-add-put
+add-put c = omega (arith, few-fresh (start (c .before .before .before .before .before .before)))
+
+put-requires-2 : tie.Need-put-requires-2
+put-requires-2 c κs = search needs
+
+last-taken-requires : tie.Need-last-taken-requires
+last-taken-requires c κs =
+    let s = start (c .before .before .before .before .before .before .before .before .before) in
+    (s .pre .1, few-fresh s, some-pages s, s .pre .0 .packed .kept)
+
+same-length : tie.Need-same-length
+same-length c = search needs
+
+returns : tie.Need-returns
+unfolding taken named
+returns c =
+    let tested = c .before .before .before .before .before .before in
+    let stored = tested .before .before .before .before in
+    rw (le-leb _ _ (start stored .pre .1), eq-eqb _ _ (tested .if1 .taken)) (
+    record {
+      counted = c .last-taken .ensures (start stored .args .entries .now);
+      named = λ b. c .before .before .before .put2 .ensures ∙ rw (stored .put .ensures, add-one (start stored .args .p .fresh));
+    }
+    )
+
+entry-taken-requires : tie.Need-entry-taken-requires
+entry-taken-requires c κs = let s = start (c .before .before .before .before) in (s .pre .1, omega (arith, few-fresh s))
+
+same-length-2 : tie.Need-same-length-2
+same-length-2 c = search needs
+
+returns-2 : tie.Need-returns-2
+unfolding taken named
+returns-2 c =
+    let stored = c .before .before .before .before .before in
+    rw (le-leb _ _ (start stored .pre .1), ne-eqb _ _ (c .before .if1 .left)) (record { counted = c .entry-taken .ensures; named = λ b. stored .put .ensures })
+
+pub take-entry-spec : {M : Type 1} → statement M
+take-entry-spec = tie.close (tie.spec sub-last mul-put shared-slice-read-put put-requires sub-if1 mul-if1 add-put put-requires-2 last-taken-requires same-length returns entry-taken-requires same-length-2 returns-2)

@@ -1,2 +1,0 @@
--- Laws about the definitions of this crate.
-pub mod SizesLaws
