@@ -11,11 +11,9 @@ ghost use Rattle.allocator.specs.declared.save.OpenSave.{OpenSave};
 use free_list::list_page::max_pns_per_page;
 use page::growth::Grown;
 use page::growth::grow;
+use page::growth::MAX_BUMP;
 use page::number::Allocations;
 use page::number::PageNumber;
-
-// The largest bump. No number from it on is handed out.
-pub const MAX_BUMP: u32 = 4294950913;
 
 // What a save starts from, which stays as it is.
 pub struct Start {

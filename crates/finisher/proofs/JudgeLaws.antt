@@ -14,10 +14,10 @@ use lib.Seq.{sets, length-take-le}
 use Rattle.refusal.specs.Outcome.{answer, refused}
 use Rattle.refusal.proofs.OutcomeLaws.{unanswer, withAnswer-answer, withAnswer-refused}
 use Rattle.laws.proofs.SetsLaws.{take-sets}
-use Rattle.page.specs.PageSize.{IsPageSize, capacity}
+use Rattle.page.specs.PageSize.{mostEntries, IsPageSize, capacity}
 use Rattle.page.specs.Growth.{maxBump}
 use Rattle.preallocate.specs.Plan.{planOf}
-use Rattle.preallocate.specs.Counts.{counts, mostEntries, Planable}
+use Rattle.preallocate.specs.Counts.{counts, Planable}
 use Rattle.preallocate.specs.declared.turns.Plan.{Plan as Counts}
 use Rattle.preallocate.proofs.FirstLaws.{capacity-fits}
 use Rattle.allocator.specs.OpenSave.{Save, listOf, bumped, stateFits}

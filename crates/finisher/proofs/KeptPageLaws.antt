@@ -19,7 +19,7 @@ use Rattle.free_list.proofs.BelowLaws.{fragmented-is, below-inner, below-head}
 use Rattle.preallocate.specs.Plan.{Plan, planOf}
 use Rattle.preallocate.proofs.PlanLaws.{plan-kept, plan-left, plan-fits, plan-least}
 use Rattle.finisher.specs.Finish.{newList, encodedPage}
-use Rattle.preallocate.proofs.ShapedLaws.{shaped}
+use Rattle.free_list.proofs.ShapeLaws.{shaped}
 use Rattle.preallocate.proofs.CasesLaws.{FirstCases, TurnCases, plan-run}
 use Rattle.preallocate.proofs.SomeLaws.{plan-some}
 use Rattle.finisher.proofs.PushLaws.{plan-pushes}

@@ -7,7 +7,7 @@ use mathlib.Core.List.{List}
 use lib.ListN.{length}
 use Rattle.refusal.specs.Outcome.{Outcome, answer, withAnswer}
 use Rattle.refusal.specs.Refusals.{refusal}
-use Rattle.page.specs.PageSize.{IsPageSize, capacity}
+use Rattle.page.specs.PageSize.{IsPageSize, capacity, mostEntries}
 use Rattle.page.specs.Pages.{pageCount, pageAt}
 use Rattle.free_list.specs.ListPages.{prevOf, countOf, entriesOf}
 use Rattle.free_list.specs.Shape.{FreeList}
@@ -18,10 +18,6 @@ use Rattle.free_list.specs.declared.walk.Visited.{Visited}
 use Rattle.free_list.specs.declared.walk.Visited.the-variants.{Next, Unfit}
 use Rattle.free_list.specs.declared.walk.Walked.{Walked}
 use Rattle.free_list.specs.declared.walk.Walked.the-variants.{Ended, More, Stopped}
-
--- more entries than a list page holds at any page size
-abbrev pub mostEntries : ℕ
-mostEntries = 16384
 
 -- what keeps the counts of a walk from wrapping: no more pages than a store has, and no more entries than they hold
 pub record WalkFits (w : Walk) : Type 0 where

@@ -7,6 +7,10 @@ use Rattle.page.specs.declared.size.PageSize.{PageSize}
 unfoldable pub capacity : ℕ → ℕ
 capacity s = (s - 6) / 4
 
+-- more numbers than a list page holds at any page size
+abbrev pub mostEntries : ℕ
+mostEntries = 16384
+
 -- what is asked of a page size
 pub record IsPageSize (s : ℕ) : Type 0 where
   pub multiple : s % 4 ≡ 0

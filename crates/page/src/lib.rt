@@ -1,6 +1,6 @@
 // Pages and what they are made of: numbers in bytes, page numbers, the pages of a store, and how a store grows.
 //
-// A page has `size` bytes: every function here takes the size, and PAGE_SIZE is document 01's.
+// Functions take the size of a page in bytes; `size` has the type of which each value is a page size, and document 01's.
 pub mod copy;
 pub mod fill;
 pub mod growth;
@@ -8,6 +8,3 @@ pub mod little_endian;
 pub mod number;
 pub mod size;
 pub mod store;
-
-// The bytes of a page in document 01.
-pub const PAGE_SIZE: usize = 4096;

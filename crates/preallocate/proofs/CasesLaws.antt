@@ -13,7 +13,9 @@ use Rattle.laws.proofs.Tests.{cond-cases, and-true, and-false}
 use Rattle.free_list.specs.Shape.{FreeList, isShape, isFragmented}
 use Rattle.free_list.proofs.BelowLaws.{fragmented-is}
 use Rattle.preallocate.specs.Plan.{Plan, pagesFor, room, pagesAfter, pushedAfter, noneLeft, renumbered, mended, emptied, firstPlan, swapTop, takeEntry, takeLast, takeBump, nextPlan, enoughRoom, planOf}
-use Rattle.preallocate.proofs.ShapedLaws.{times-positive, pagesFor-enough, pagesFor-least, shaped}
+use Rattle.laws.proofs.ProductLaws.{times-positive}
+use Rattle.free_list.proofs.ShapeLaws.{shaped}
+use Rattle.preallocate.proofs.PagesForLaws.{pagesFor-enough, pagesFor-least}
 
 enough-short : (c : ℕ) (l : FreeList) (n : ℕ) (t : Plan) → ltb (room c t) (length (t .pushed)) ≡ true → enoughRoom c l (suc n) t ≡ enoughRoom c l n (nextPlan c l t)
 unfolding enoughRoom

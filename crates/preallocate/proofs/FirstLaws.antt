@@ -12,14 +12,16 @@ use lib.Seq.{length-take-le}
 use lib.Dec.{leb, eqb}
 use borrow.Author.Tests.{leb-false, le-leb, lt-leb, eqb-true, eqb-false, eq-eqb, ne-eqb}
 use Rattle.laws.proofs.Tests.{cond-cases, and-true}
-use Rattle.page.specs.PageSize.{IsPageSize, capacity}
+use Rattle.page.specs.PageSize.{mostEntries, IsPageSize, capacity}
 use Rattle.free_list.specs.Shape.{FreeList, isShape, isFragmented}
 use Rattle.free_list.proofs.BelowLaws.{fragmented-is}
 use Rattle.preallocate.specs.Plan.{Plan, pageNumber, pagesAfter, pushedAfter, noneLeft, renumbered, mended, emptied, firstPlan}
 use Rattle.preallocate.specs.declared.turns.Plan.{Plan as Counts}
-use Rattle.preallocate.specs.Counts.{counts, tableList, mostEntries, mostBump, Poppable, Planable}
+use Rattle.preallocate.specs.Counts.{counts, tableList, mostBump, Poppable, Planable}
 use Rattle.preallocate.specs.Steps.{roomOf, Packed, Small}
-use Rattle.preallocate.proofs.ShapedLaws.{times-less, times-positive, pagesFor-enough, pagesFor-tight, pagesFor-least, shaped, not-fragmented}
+use Rattle.laws.proofs.ProductLaws.{times-less, times-positive}
+use Rattle.free_list.proofs.ShapeLaws.{shaped}
+use Rattle.preallocate.proofs.PagesForLaws.{pagesFor-enough, pagesFor-tight, pagesFor-least, head-some}
 
 -- ---- the pages that are left
 
@@ -40,7 +42,7 @@ module _ (c : ℕ) (l : FreeList) (two : 2 ≤ c) (shape : isShape c (length (l 
   after-facts some whole =
       let s = shaped c _ _ shape in
       cond-cases (λ p. (length (l .entries) - k ≤ c * p) × (c * p < length (l .entries) - k + c)) (eqb k 0) _ _
-      (λ e. let z = eqb-true k 0 e in let t = not-fragmented c _ _ two (omega arith) s (rw e at whole) in (omega (arith, s .most), omega arith))
+      (λ e. let z = eqb-true k 0 e in let t = head-some c _ _ two (omega arith) s (rw e at whole) in (omega (arith, s .most), omega arith))
       (λ e. (pagesFor-enough c (length (l .entries) - k) (omega arith), pagesFor-tight c (length (l .entries) - k) (omega arith)))
 
   -- there is one, and their room is no more than a page above the entries

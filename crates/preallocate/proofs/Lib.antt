@@ -1,5 +1,5 @@
 -- Laws about the plan of a finish, for the proofs here and above.
-pub mod ShapedLaws
+pub mod PagesForLaws
 pub mod StepsLaws
 pub mod FirstLaws
 pub mod PlanLaws

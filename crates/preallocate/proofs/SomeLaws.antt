@@ -12,7 +12,8 @@ use borrow.Author.Tests.{eqb-false}
 use Rattle.laws.proofs.Tests.{and-false}
 use Rattle.free_list.specs.Shape.{FreeList, isShape}
 use Rattle.preallocate.specs.Plan.{Plan, pagesAfter, pushedAfter, planOf}
-use Rattle.preallocate.proofs.ShapedLaws.{times-positive, shaped}
+use Rattle.laws.proofs.ProductLaws.{times-positive}
+use Rattle.free_list.proofs.ShapeLaws.{shaped}
 use Rattle.preallocate.proofs.CasesLaws.{FirstCases, TurnCases, plan-run}
 
 -- a list that is made longer at its end

@@ -15,7 +15,7 @@ use Rattle.laws.proofs.SetsLaws.{sets-append}
 use Rattle.free_list.specs.Shape.{FreeList}
 use Rattle.preallocate.specs.declared.turns.Plan.{Plan as Counts}
 use Rattle.preallocate.specs.Steps.{roomOf, wholeOf, lastOf, topSwapped, bumpTaken, entryTaken, lastTaken, taken, named, stepped, stepNames, planned, newPages, work, Packed, Small, Short, Due, Took, Planned}
-use Rattle.preallocate.proofs.ShapedLaws.{times-less, times-positive, times-least}
+use Rattle.laws.proofs.ProductLaws.{times-less, times-positive, times-least}
 
 -- ---- the cases of a turn
 

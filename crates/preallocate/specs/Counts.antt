@@ -5,7 +5,7 @@ use mathlib.Core.Bool.{true}
 use mathlib.Core.List.{List}
 use lib.ListN.{length, take}
 use lib.Seq.{sets}
-use Rattle.page.specs.PageSize.{IsPageSize, capacity}
+use Rattle.page.specs.PageSize.{mostEntries, IsPageSize, capacity}
 use Rattle.free_list.specs.Shape.{FreeList, isShape}
 use Rattle.preallocate.specs.Plan.{Plan}
 use Rattle.preallocate.specs.declared.turns.Plan.{Plan as Counts}
@@ -23,10 +23,6 @@ abbrev pub tableList : List ℕ → List ℕ → ℕ → ℕ → FreeList
 tableList pages entries P L = wholeList (take P pages) (take L entries)
 
 -- ---- limits within which no sum of a plan passes 64 bits
-
--- entries to a list page: no page holds as many
-abbrev pub mostEntries : ℕ
-mostEntries = 16384
 
 -- the bump that a plan starts from: one past 32 bits is refused only after the plan
 abbrev pub mostBump : ℕ

@@ -6,7 +6,8 @@ use mathlib.Core.Bool.{Bool, true, false, cond, _&&_}
 use lib.ListN.{length, getD}
 use lib.Dec.{leb, ltb, eqb}
 use Rattle.free_list.specs.Shape.{FreeList}
-use Rattle.preallocate.specs.Counts.{mostEntries, Told}
+use Rattle.page.specs.PageSize.{mostEntries}
+use Rattle.preallocate.specs.Counts.{Told}
 use Rattle.preallocate.specs.declared.turns.Plan.{Plan as Counts}
 
 abbrev pub roomOf : ℕ → Counts → ℕ

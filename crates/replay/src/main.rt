@@ -4,11 +4,11 @@
 ghost use Rattle.io.specs.Counts.{Counts};
 use libc::STDIN_FILENO;
 use libc::STDOUT_FILENO;
-use line::numbers::MOST;
-use line::reading::Reading;
-use line::reading::with_byte;
-use line::reading::with_number;
-use recorded::replay;
+use record_line::numbers::MOST;
+use record_line::reading::Reading;
+use record_line::reading::with_byte;
+use record_line::reading::with_number;
+use replayed::replay;
 
 // So many wrong lines are named.
 const MOST_NAMED: u64 = 10;

@@ -7,7 +7,7 @@ use native.Mathlib.Omega.{arith}
 use lib.Dec.{eqb}
 use Rattle.page.specs.PageSize.{capacity}
 use Rattle.free_list.specs.Shape.{isFragmented}
-use Rattle.preallocate.proofs.ShapedLaws.{shaped}
+use Rattle.free_list.proofs.ShapeLaws.{shaped}
 use Rattle.finisher.proofs.CarryLaws.{standing, bounds, pushed-is, pushable, entries-carried, pages-room, pages-carried}
 use borrow.Author.Needs.{needs}
 use Rattle.finisher.proofs.carry.write_tables.Statement.{statement}

@@ -11,7 +11,9 @@ use lib.ListN.{length, length-append}
 use Rattle.free_list.specs.Shape.{FreeList, isFragmented}
 use Rattle.preallocate.specs.Plan.{pushedAfter}
 use Rattle.preallocate.specs.Counts.{wholeList}
-use Rattle.preallocate.proofs.ShapedLaws.{times-less, shaped, mended-pages}
+use Rattle.laws.proofs.ProductLaws.{times-less}
+use Rattle.free_list.proofs.ShapeLaws.{shaped}
+use Rattle.preallocate.proofs.PagesForLaws.{mended-pages}
 use Rattle.preallocate.proofs.FirstLaws.{after-fewer, after-some, length-pushed, first-none, first-mends, first-empties, first-renumbers}
 use borrow.Author.Needs.{needs}
 use Rattle.preallocate.proofs.plan.first_plan.Statement.{statement}

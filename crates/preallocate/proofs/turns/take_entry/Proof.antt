@@ -6,7 +6,7 @@ use native.Mathlib.Numerals.{add-one}
 use mathlib.Core.Path.{_∙_}
 use borrow.Author.Tests.{le-leb, eq-eqb, ne-eqb}
 use Rattle.preallocate.specs.Steps.{taken, named}
-use Rattle.preallocate.proofs.ShapedLaws.{times-less}
+use Rattle.laws.proofs.ProductLaws.{times-less}
 use Rattle.preallocate.proofs.StepsLaws.{pages-positive, fresh-small}
 use borrow.Author.Needs.{needs}
 use Rattle.preallocate.proofs.turns.take_entry.Statement.{statement}

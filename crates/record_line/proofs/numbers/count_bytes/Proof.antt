@@ -1,0 +1,20 @@
+-- `count_bytes` meets its contract: what it gives is no more than the length.
+-- Assumes nothing.
+use mathlib.Core.Path.{sym}
+use native.Mathlib.Omega.{arith}
+use lib.Seq.{length-take-le}
+use borrow.Author.Needs.{needs}
+use Rattle.record_line.proofs.numbers.count_bytes.Statement.{statement}
+use Rattle.record_line.proofs.numbers.count_bytes.Tie as tie
+
+number-requires : tie.Need-number-requires
+number-requires c κs = search needs
+
+returns : tie.Need-returns
+returns c = search needs
+
+returns-2 : tie.Need-returns-2
+returns-2 c = (omega arith, sym (length-take-le _ (c .before .before .before .before .args .bytes .now) (omega arith)))
+
+pub count-bytes-spec : {M : Type 1} → statement M
+count-bytes-spec = tie.close (tie.spec number-requires returns returns-2)

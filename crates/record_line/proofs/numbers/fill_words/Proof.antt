@@ -1,0 +1,62 @@
+-- `fill_words` is safe and ends: the table keeps its length.
+-- Assumes nothing.
+use Prim.Native.Nat.{_-_}
+use mathlib.Core.Path.{_≡_, refl}
+use native.Mathlib.Omega.{arith}
+use lib.ListN.{length, length-set}
+use borrow.Author.Needs.{needs}
+use Rattle.record_line.proofs.numbers.fill_words.Statement.{statement}
+use Rattle.record_line.proofs.numbers.fill_words.Tie as tie
+
+abbrev Inv-loop : tie.InvT-loop
+Inv-loop line at table₀ i₀ table i = length table ≡ length table₀
+
+abbrev μ-loop : tie.MeasureT-loop
+μ-loop line at table₀ i₀ table i = length table₀ - i
+
+loop-holds : tie.Need-loop-holds Inv-loop μ-loop
+loop-holds c = refl
+
+plus-requires : tie.Need-plus-requires Inv-loop μ-loop
+plus-requires c κs = search needs
+
+word-requires : tie.Need-word-requires Inv-loop μ-loop
+word-requires c κs = search needs
+
+mul-table : tie.Need-mul-table Inv-loop μ-loop
+mul-table c = omega arith
+
+slice-write-table : tie.Need-slice-write-table Inv-loop μ-loop
+slice-write-table c = omega arith
+
+add-i : tie.Need-add-i Inv-loop μ-loop
+add-i c = omega arith
+
+loop-less : tie.Need-loop-less Inv-loop μ-loop
+loop-less c = omega arith
+
+loop-again : tie.Need-loop-again Inv-loop μ-loop
+loop-again c = simp length-set (c .before .before .before .loop .inv)
+
+same-length : tie.Need-same-length Inv-loop μ-loop
+same-length c = c .before .loop .inv
+
+returns : tie.Need-returns Inv-loop μ-loop
+returns c = tt
+
+pub fill-words-spec : {M : Type 1} → statement M
+fill-words-spec =
+    tie.close
+    (tie.spec
+    Inv-loop
+    μ-loop
+    loop-holds
+    plus-requires
+    word-requires
+    mul-table
+    slice-write-table
+    add-i
+    loop-less
+    loop-again
+    same-length
+    returns)
