@@ -10,8 +10,8 @@ ghost use Rattle.allocator.specs.Answers.{saveOf};
 ghost use Rattle.allocator.specs.declared.save.OpenSave.{OpenSave};
 use free_list::list_page::max_pns_per_page;
 use page::growth::Grown;
-use page::growth::grow;
 use page::growth::MAX_BUMP;
+use page::growth::grow;
 use page::number::Allocations;
 use page::number::PageNumber;
 
@@ -32,6 +32,7 @@ pub struct OpenSave {
     pub length: u32,
 }
 
+// Both together.
 pub struct Save {
     pub start: Start,
     pub open: OpenSave,

@@ -19,5 +19,5 @@ Grows page out r = left r out nothing ≡ called growValues (before out) (effect
 abbrev pub totalValues : Total → List ℕ
 totalValues t = t .total ∷ t .cell ∷ t .spare ∷ []
 
-abbrev pub Totals : PageSize → ℕ → Lent → ℕ → Type 0
-Totals z size out r = left r out nothing ≡ called totalValues (before out) (effect (pageTotal (pageBytes z) size) nothing)
+abbrev pub TellsTotal : PageSize → ℕ → Lent → ℕ → Type 0
+TellsTotal z size out r = left r out nothing ≡ called totalValues (before out) (effect (pageTotal (pageBytes z) size) nothing)

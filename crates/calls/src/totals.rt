@@ -1,5 +1,5 @@
 // How a store grows, and how many pages a value takes.
-ghost use Rattle.calls.specs.Totals.{Grows, Totals};
+ghost use Rattle.calls.specs.Totals.{Grows, TellsTotal};
 use overflow::total::Totalled;
 use overflow::total::page_total;
 use page::growth::Grown;
@@ -21,7 +21,7 @@ pub fn grow(page: u32, out: &mut [u64; 8]) -> u32
 
 // out: total, numbers in the cell, spare room.
 pub fn total(page_size: PageSize, size: u64, out: &mut [u64; 8]) -> u32
-    ensures { λ r. ⌜ Totals «page_size» size out r ⌝ }
+    ensures { λ r. ⌜ TellsTotal «page_size» size out r ⌝ }
 {
     match page_total(page_size, size) {
         Totalled::Pages(t) => {

@@ -23,7 +23,7 @@ use Rattle.allocator.specs.OpenSave.{Save, listOf, bumped}
 use Rattle.allocator.proofs.SaveLaws.{Stands, stands}
 use Rattle.free_list.specs.Reading.{ListTables, listIn}
 use Rattle.finisher.specs.Finish.{Finished, FinishLent, newList, encodedPages, carriedOut, finished, bytesOfPages, stored}
-use Rattle.finisher.specs.Steps.{popped, unchanged, planFor, newNumbers, newTables, pushList, bytesFrom, Pushable, Listed, Encodable, Goes, Changed, Doable}
+use Rattle.finisher.specs.Steps.{popped, unchanged, planFor, newNumbers, newTables, pushList, bytesFrom, Pushable, Listed, EncodableList, Goes, Changed, Doable}
 use Rattle.finisher.specs.declared.judge.Work.{Work}
 use Rattle.finisher.proofs.EncodeLaws.{length-encodedPages}
 use Rattle.finisher.proofs.FinishLaws.{finished-same, finished-changed, bump-raised, Succeeds, Room, succeeds}
@@ -262,7 +262,7 @@ module _ {s : ℕ} {v : Save} {freed : List ℕ} {work : Work} (h : Doable s v f
         let q : take (work .entries) (t .entries) ≡ m .entries = rw (is-new, entries-are) (take-sets (v .entryTable) (m .entries) (h .entries-fit)) in
         λ i. record { pages = p i; entries = q i }
 
-    pub encodable : {bytesLent : ℕ} → s * work .written ≤ bytesLent → Encodable s (t .pages) (t .entries) (work .pages) (work .entries) first bytesLent
+    pub encodable : {bytesLent : ℕ} → s * work .written ≤ bytesLent → EncodableList s (t .pages) (t .entries) (work .pages) (work .entries) first bytesLent
     encodable fit =
         record {
           list =

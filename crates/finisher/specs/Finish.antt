@@ -81,6 +81,10 @@ finishAnswer v f =
       count = length (f .written);
     }
 
+-- the two tables of a save
+abbrev pub tablesOf : Save → ListTables
+tablesOf v = record { pages = v .pageTable; entries = v .entryTable }
+
 -- what a finish is, with these numbers freed
 unfoldable pub finished : ℕ → Save → List ℕ → Finished
 finished s v freed = finishList s (listOf v) (bumped v) (v .handed) freed
@@ -93,7 +97,7 @@ finish s v freed bytesLent numbersLent =
     check (stateFits s v) 1 []
     (check (leb (f .bump) maxBump) 7 []
     (check (eqb bad (length freed)) 8 (bad ∷ [])
-    (check (leb (length (f .list .pages)) (length (v .pageTable)) && leb (length (f .list .entries)) (length (v .entryTable))) 6 []
+    (check (hasRoom (tablesOf v) (f .list)) 6 []
     (check (leb (s * length (f .written)) bytesLent && leb (length (f .written)) numbersLent) 9 []
     (answer f)))))
 
@@ -140,5 +144,5 @@ stored l f =
 -- finish the save; a refusal leaves all as it was
 unfoldable pub finishInto : ℕ → Save → List ℕ → FinishRoom → Effect FinishAnswer FinishLent
 finishInto s v freed room =
-    let l : FinishLent = record { tables = record { pages = v .pageTable; entries = v .entryTable }; room = room } in
+    let l : FinishLent = record { tables = tablesOf v; room = room } in
     leaves (finishAnswer v) (stored l) l (finish s v freed (length (room .buffer)) (length (room .numbers)))

@@ -1,4 +1,5 @@
--- The finished save (`Finish`), the code's answer (`Answers`), and the finish's work in parts (`Steps`), which only private functions cite.
+-- The finished save (`Finish`), the code's answer (`Answers`), the finish's work in parts (`Steps`), which only
+-- private functions cite, and what is shown of finished saves (`Theorems`).
 pub mod Finish
 pub mod Answers
 pub mod Steps

@@ -11,7 +11,7 @@ use Rattle.refusal.specs.Refusals.{refusal}
 use Rattle.page.specs.PageSize.{IsPageSize, capacity}
 use Rattle.page.specs.Growth.{maxBump, grown}
 use Rattle.free_list.specs.Reading.{ListTables}
-use Rattle.free_list.specs.Shape.{previous, FreeList}
+use Rattle.free_list.specs.Shape.{FreeList}
 use Rattle.preallocate.specs.Plan.{Plan, planOf}
 use Rattle.preallocate.specs.Counts.{counts}
 use Rattle.preallocate.specs.declared.turns.Plan.{Plan as Counts}
@@ -151,7 +151,7 @@ abbrev pub bytesFrom : ℕ → FreeList → ℕ → ℕ → List ℕ
 bytesFrom s l first n = bytesOfPages (encodedPages s l first n)
 
 -- its pages from page `first` up have room in so many bytes
-pub record Encodable (s : ℕ) (pages entries : List ℕ) (P L first bytesLent : ℕ) : Type 0 where
+pub record EncodableList (s : ℕ) (pages entries : List ℕ) (P L first bytesLent : ℕ) : Type 0 where
   pub list : Listed s pages entries P L
   pub order : first ≤ P
   pub bytes-fit : s * (P - first) ≤ bytesLent
@@ -164,12 +164,12 @@ abbrev pub numbersFor : ℕ → Save → List ℕ → List ℕ
 numbersFor s v freed = newNumbers (planFor s v freed)
 
 -- there is room for them in the number list, or they stand there
-pub record Fillable (s : ℕ) (v : Save) (freed : List ℕ) (work : Work) (numbers : List ℕ) : Type 0 where
+pub record Numberable (s : ℕ) (v : Save) (freed : List ℕ) (work : Work) (numbers : List ℕ) : Type 0 where
   pub doable : Doable s v freed work
   pub numbers-fit : work .written ≤ length numbers
 
 pub record Filled (s : ℕ) (v : Save) (freed : List ℕ) (work : Work) (numbers : List ℕ) : Type 0 where
-  pub fillable : Fillable s v freed work numbers
+  pub fillable : Numberable s v freed work numbers
   pub numbers-are : take (work .written) numbers ≡ numbersFor s v freed
 
 -- the tables with the new list

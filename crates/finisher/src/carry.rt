@@ -5,7 +5,7 @@ ghost use Rattle.refusal.specs.Effect.{before, after};
 ghost use Rattle.free_list.specs.Reading.{tables};
 ghost use Rattle.finisher.specs.Finish.{finishLent};
 ghost use Rattle.finisher.specs.Answers.{saveWith};
-ghost use Rattle.finisher.specs.Steps.{Goes, Doable, Fillable, Filled, planFor, numbersFor, newTables, carried};
+ghost use Rattle.finisher.specs.Steps.{Goes, Doable, Numberable, Filled, planFor, numbersFor, newTables, carried};
 use crate::encode::encode_pages;
 use crate::judge::Work;
 use crate::judge::one_less;
@@ -57,7 +57,7 @@ fn fill_numbers(
     entries: &[u32],
     numbers: &mut [u32],
 )
-    requires { ⌜ Fillable «page_size» (saveWith save (now pages) (now entries)) (now freed) work (now numbers) ⌝ }
+    requires { ⌜ Numberable «page_size» (saveWith save (now pages) (now entries)) (now freed) work (now numbers) ⌝ }
     ensures { λ _. ⌜ after numbers ≡ sets (before numbers) 0 (numbersFor «page_size» (saveWith save (before pages) (before entries)) (before freed)) ⌝ }
 {
     if work.plan.pages == 0 {

@@ -7,7 +7,7 @@ ghost use Rattle.refusal.specs.Effect.{before, after};
 ghost use Rattle.free_list.specs.Shape.{previous, entriesBelow};
 ghost use Rattle.preallocate.specs.Counts.{tableList};
 ghost use Rattle.finisher.specs.Finish.{encodedPage};
-ghost use Rattle.finisher.specs.Steps.{Listed, Encodable, bytesFrom};
+ghost use Rattle.finisher.specs.Steps.{Listed, EncodableList, bytesFrom};
 use free_list::list_page::encode_free_list_page;
 use free_list::list_page::max_pns_per_page;
 use page::number::PageNumber;
@@ -78,7 +78,7 @@ pub(crate) fn encode_pages(
     first: usize,
     buffer: &mut [u8],
 )
-    requires { ⌜ Encodable «page_size» (now pages) (now entries) count listed first (length (now buffer)) ⌝ }
+    requires { ⌜ EncodableList «page_size» (now pages) (now entries) count listed first (length (now buffer)) ⌝ }
     ensures { λ _. ⌜ after buffer ≡ sets (before buffer) 0 (bytesFrom «page_size» (tableList (before pages) (before entries) count listed) first (count - first)) ⌝ }
 {
     let mut j = first;

@@ -18,7 +18,7 @@ use Rattle.page.specs.declared.size.PageSize.{PageSize}
 use Rattle.page.specs.Pages.{pageCount}
 use Rattle.page.proofs.PageSizeLaws.{page-least, page-bytes}
 use Rattle.page.proofs.PagesLaws.{page-within}
-use Rattle.lookup.specs.Lookup.{firstOf, Place, inPending, inStore, find, lookup}
+use Rattle.lookup.specs.Lookup.{firstOf, Place, pendingAt, storeAt, find, lookup}
 
 -- ---- the first place of a number
 
@@ -51,8 +51,8 @@ within-pages s i n b h room = omega (arith, mul-le-mul-left s h, mul-suc s i)
 
 -- the s bytes of a place lie in its slice
 abbrev pub Within : ℕ → List ℕ → List ℕ → Place → Type 0
-Within s pending store (inPending at) = at + s ≤ length pending
-Within s pending store (inStore at) = at + s ≤ length store
+Within s pending store (pendingAt at) = at + s ≤ length pending
+Within s pending store (storeAt at) = at + s ≤ length store
 
 -- s is the page size in bytes, as the code has it
 module _ (z : PageSize) {s : ℕ} (sized : s ≡ pageBytes z) where
@@ -73,7 +73,7 @@ module _ (z : PageSize) {s : ℕ} (sized : s ≡ pageBytes z) where
       enough = le-leb _ _ (room-enough s (length numbers) (length pending) page-some room)
 
       -- a pending page
-      pub find-pending : i < length numbers → answer (inPending (s * i)) ≡ find (pageBytes z) numbers pending store page
+      pub find-pending : i < length numbers → answer (pendingAt (s * i)) ≡ find (pageBytes z) numbers pending store page
       unfolding find
       find-pending h = rw (← sized, enough, ← place, lt-ltb _ _ h)
 
@@ -84,7 +84,7 @@ module _ (z : PageSize) {s : ℕ} (sized : s ≡ pageBytes z) where
         find-missing h = rw (← sized, enough, ← place, ← counted, le-ltb _ _ none, le-ltb _ _ h)
 
         -- a page of the store
-        pub find-stored : page < count → answer (inStore (s * page)) ≡ find (pageBytes z) numbers pending store page
+        pub find-stored : page < count → answer (storeAt (s * page)) ≡ find (pageBytes z) numbers pending store page
         unfolding find
         find-stored h = rw (← sized, enough, ← place, ← counted, le-ltb _ _ none, lt-ltb _ _ h)
 
@@ -99,18 +99,18 @@ module _ (z : PageSize) {s : ℕ} (sized : s ≡ pageBytes z) where
         let room = check-answer (leb (s * length numbers) (length pending)) 9 [] _ (sym (rw (← sized) at e)) in
         let found = check-answer (isPending || isStored) 15 (page ∷ []) _ (room .1) in
         subst (Within s pending store) (unanswer (found .1))
-        (cond-cases (Within s pending store) isPending (inPending (s * i)) (inStore (s * page))
+        (cond-cases (Within s pending store) isPending (pendingAt (s * i)) (storeAt (s * page))
         (λ t. within-pages s i (length numbers) (length pending) (ltb-true _ _ t) (leb-true _ _ (room .0)))
         (λ t. page-within s store page page-some (ltb-true _ _ (subst (λ (b : Bool). b || isStored ≡ true) t (found .0)))))
 
     -- ---- the bytes of what was found
 
-    pub lookup-pending : {at : ℕ} → answer (inPending at) ≡ find (pageBytes z) numbers pending store page
+    pub lookup-pending : {at : ℕ} → answer (pendingAt at) ≡ find (pageBytes z) numbers pending store page
         → take (at + s - at) (drop at pending) ≡ lookup (pageBytes z) numbers pending store page
     unfolding lookup
     lookup-pending {at} e = let d : at + s - at ≡ s = omega arith in rw (← e, d, sized)
 
-    pub lookup-stored : {at : ℕ} → answer (inStore at) ≡ find (pageBytes z) numbers pending store page
+    pub lookup-stored : {at : ℕ} → answer (storeAt at) ≡ find (pageBytes z) numbers pending store page
         → take (at + s - at) (drop at store) ≡ lookup (pageBytes z) numbers pending store page
     unfolding lookup
     lookup-stored {at} e = let d : at + s - at ≡ s = omega arith in rw (← e, d, sized)

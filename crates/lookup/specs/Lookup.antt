@@ -19,8 +19,8 @@ firstOf page (n ∷ ns) = cond (eqb n page) 0 (suc (firstOf page ns))
 
 -- where a page lies: in the pending pages or in the store, from this byte on
 pub data Place : Type 0 where
-  inPending : ℕ → Place
-  inStore : ℕ → Place
+  pendingAt : ℕ → Place
+  storeAt : ℕ → Place
 
 -- where the page lies: at its first place among the pending pages; if it is none of them, in the store. Refusal 9: fewer pending bytes
 -- than a page for each number. Refusal 15: the page is neither pending nor in the store
@@ -31,12 +31,12 @@ find s numbers pending store page =
     let isStored = ltb page (pageCount s store) in
     check (leb (s * length numbers) (length pending)) 9 []
     (check (isPending || isStored) 15 (page ∷ [])
-    (answer (cond isPending (inPending (s * i)) (inStore (s * page)))))
+    (answer (cond isPending (pendingAt (s * i)) (storeAt (s * page)))))
 
 -- the s bytes of the place; after a refusal none
 abbrev pub bytesAt : ℕ → List ℕ → List ℕ → Outcome Place → List ℕ
-bytesAt s pending store (answer (inPending at)) = take s (drop at pending)
-bytesAt s pending store (answer (inStore at)) = take s (drop at store)
+bytesAt s pending store (answer (pendingAt at)) = take s (drop at pending)
+bytesAt s pending store (answer (storeAt at)) = take s (drop at store)
 bytesAt s pending store (refused number values) = []
 
 -- the bytes of the page
@@ -45,6 +45,6 @@ lookup s numbers pending store page = bytesAt s pending store (find s numbers pe
 
 -- what the code answers, as an outcome
 abbrev pub findOutcome : Found → Outcome Place
-findOutcome (Pending at) = answer (inPending at)
-findOutcome (Store at) = answer (inStore at)
+findOutcome (Pending at) = answer (pendingAt at)
+findOutcome (Store at) = answer (storeAt at)
 findOutcome (Refused r) = refusal r

@@ -1,6 +1,6 @@
 // How a store grows, and how many pages a value takes.
 ghost use Rattle.page.specs.PageSize.{standard};
-ghost use Rattle.calls.specs.Totals.{Grows, Totals};
+ghost use Rattle.calls.specs.Totals.{Grows, TellsTotal};
 use page::size::PAGE_SIZE;
 
 // out: the new length.
@@ -14,7 +14,7 @@ pub extern "C" fn mopsienna_grow(page: u32, out: &mut [u64; 8]) -> u32
 // out: total, numbers in the cell, spare room.
 #[no_mangle]
 pub extern "C" fn mopsienna_total(size: u64, out: &mut [u64; 8]) -> u32
-    ensures { λ r. ⌜ Totals standard size out r ⌝ }
+    ensures { λ r. ⌜ TellsTotal standard size out r ⌝ }
 {
     calls::totals::total(PAGE_SIZE, size, out)
 }

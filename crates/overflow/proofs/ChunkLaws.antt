@@ -16,7 +16,7 @@ use Rattle.page.proofs.PageSizeLaws.{page-least}
 use Rattle.overflow.specs.Totals.{maxSize, cellNumbers, body, totalPages}
 use Rattle.overflow.specs.Layout.{numbersPerPage, numbersBefore, numbersOn, bytesBefore, bytesOn, partOf, numbersPart, bytesPart}
 use Rattle.overflow.specs.ValuePages.{valuePage, chunk, chunkInto}
-use Rattle.overflow.specs.Steps.{IsPageOf, Encodable}
+use Rattle.overflow.specs.Steps.{IsPageOf, EncodableValue}
 use Rattle.overflow.proofs.TotalsLaws.{max-size}
 use Rattle.overflow.proofs.LayoutLaws.{numbersBefore-is, bytesBefore-is, numbers-fit, numbersOn-fit, numbers-within, bytes-within, page-fits}
 use Rattle.overflow.proofs.ValuePagesLaws.{length-valuePage}
@@ -68,7 +68,7 @@ module _ {s total i : ℕ} (page : IsPageSize s) (this : IsPageOf s total i) whe
 
   -- they fit the page and lie within what is lent
   module _ (value numbers : List ℕ) (whole : length numbers ≡ total) where
-    pub encodable : {buffer : List ℕ} → s ≤ length buffer → Encodable s numbers (numbersPart s total i) value (bytesPart s total (length value) i) buffer
+    pub encodable : {buffer : List ℕ} → s ≤ length buffer → EncodableValue s numbers (numbersPart s total i) value (bytesPart s total (length value) i) buffer
     unfolding numbersPart bytesPart
     encodable h =
         record {

@@ -1,4 +1,4 @@
--- Cells: size (8 bytes), hash (32, carried and not computed), numbers. The limit of the size is that of pages of s bytes.
+-- Cells: size (8 bytes), hash (32, carried and not computed), numbers. The limit of the size may depend on the page size s.
 use Prim.Native.Nat.{ℕ, _+_, _*_, _-_, _/_, _%_}
 use mathlib.Core.Bool.{_&&_}
 use mathlib.Core.List.{List, [], _++_}

@@ -1,4 +1,4 @@
--- The parts of writing, of the walk, of reading and of deleting, which only their private functions cite.
+-- The parts of writing, of the walk, of reading and of deleting, which only the functions below the operations cite.
 use Prim.Native.Nat.{ℕ, zero, suc, _+_, _*_, _-_, _^_, _<_, _≤_}
 use mathlib.Core.Path.{_≡_}
 use mathlib.Core.Bool.{Bool, _&&_, cond}
@@ -33,7 +33,7 @@ pub record IsPageOf (s total i : ℕ) : Type 0 where
   pub inside : i < total
 
 -- a part of the numbers and a part of the value that fit a page, and a buffer for that
-pub record Encodable (s : ℕ) (numbers : List ℕ) (n : Part) (value : List ℕ) (v : Part) (page : List ℕ) : Type 0 where
+pub record EncodableValue (s : ℕ) (numbers : List ℕ) (n : Part) (value : List ℕ) (v : Part) (page : List ℕ) : Type 0 where
   pub buffer : s ≤ length page
   pub fits : 4 + 4 * n .count + v .count ≤ s
   pub numbers-lent : n .from + n .count ≤ length numbers
@@ -128,7 +128,7 @@ pub record Celled (s : ℕ) (cell : List ℕ) (needs : ValueNeeds) (table : List
   pub walkable : Walkable s (needs .total) table
 
 -- and a buffer for its bytes
-pub record Readable (s : ℕ) (cell : List ℕ) (needs : ValueNeeds) (table value : List ℕ) : Type 0 where
+pub record WalkReadable (s : ℕ) (cell : List ℕ) (needs : ValueNeeds) (table value : List ℕ) : Type 0 where
   pub celled : Celled s cell needs table
   pub room : needs .size ≤ length value
 

@@ -1,6 +1,6 @@
 // Values that are kept in overflow pages: how many pages one takes, what each page holds, the cell that names the first pages, and
 // reading and deleting a value by its cell.
-pub mod admit;
+mod admit;
 pub mod cell;
 pub mod chunk;
 pub mod delete;

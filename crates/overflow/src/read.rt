@@ -5,7 +5,7 @@ ghost use lib.Seq.{sets};
 ghost use Rattle.refusal.specs.Effect.{before, after, effect};
 ghost use Rattle.page.specs.PageSize.{IsPageSize, pageBytes};
 ghost use Rattle.overflow.specs.Reading.{readLent, readValueInto, readOutcome};
-ghost use Rattle.overflow.specs.Steps.{Readable, readAdmitted, valueBytesOf, Copyable};
+ghost use Rattle.overflow.specs.Steps.{WalkReadable, readAdmitted, valueBytesOf, Copyable};
 use crate::admit::Admitted;
 use crate::admit::ValueNeeds;
 use crate::admit::admit;
@@ -55,7 +55,7 @@ fn read_pages(
     numbers: &mut [u32],
     value: &mut [u8],
 ) -> ReadValue
-    requires { ⌜ IsPageSize «page_size» × Readable «page_size» (now cell) needs (now numbers) (now value) ⌝ }
+    requires { ⌜ IsPageSize «page_size» × WalkReadable «page_size» (now cell) needs (now numbers) (now value) ⌝ }
     ensures { λ r. ⌜ effect (readOutcome r) (readLent after numbers value) ≡ readAdmitted «page_size» (before cell) (before store) (readLent before numbers value) ⌝ }
 {
     let size = needs.size;

@@ -42,7 +42,7 @@ pub fn page_total(page_size: PageSize, size: u64) -> Totalled
     Totalled::Pages(PageTotal { total, cell, spare })
 }
 
-// The largest value at pages of `page_size` bytes.
+// The largest value at pages of `page_size` bytes: the same at all of them.
 pub(crate) fn max_overflow_value_size(page_size: usize) -> usize
     ensures { λ r. ⌜ r ≡ maxSize «page_size» ⌝ }
 {

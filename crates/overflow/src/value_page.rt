@@ -8,7 +8,7 @@ ghost use lib.Seq.{sets};
 ghost use Rattle.refusal.specs.Effect.{before, after};
 ghost use Rattle.page.specs.PageSize.{IsPageSize};
 ghost use Rattle.overflow.specs.Layout.{partOf};
-ghost use Rattle.overflow.specs.Steps.{Encodable};
+ghost use Rattle.overflow.specs.Steps.{EncodableValue};
 ghost use Rattle.overflow.specs.ValuePages.{numberCount, byteCount, encodeValuePage};
 use page::copy::copy;
 use page::fill::clear;
@@ -47,7 +47,7 @@ pub fn encode_value_page(
     v: Part,
     page: &mut [u8],
 )
-    requires { ⌜ IsPageSize «page_size» × Encodable «page_size» (now numbers) n (now value) v (now page) ⌝ }
+    requires { ⌜ IsPageSize «page_size» × EncodableValue «page_size» (now numbers) n (now value) v (now page) ⌝ }
     ensures { λ _. ⌜ after page ≡ sets (before page) 0 (encodeValuePage «page_size» (partOf n (before numbers)) (partOf v (before value))) ⌝ }
 {
     write_u16(page, 0, n.count as u16);

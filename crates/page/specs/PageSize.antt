@@ -7,7 +7,7 @@ use Rattle.page.specs.declared.size.PageSize.{PageSize}
 unfoldable pub capacity : ℕ → ℕ
 capacity s = (s - 6) / 4
 
--- more numbers than a list page holds at any page size
+-- a bound on the entries of a list page at every page size
 abbrev pub mostEntries : ℕ
 mostEntries = 16384
 

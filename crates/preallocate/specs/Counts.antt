@@ -24,7 +24,7 @@ tableList pages entries P L = wholeList (take P pages) (take L entries)
 
 -- ---- limits within which no sum of a plan passes 64 bits
 
--- the bump that a plan starts from: one past 32 bits is refused only after the plan
+-- the bump that a plan starts from, far below what would wrap; a plan whose own bump is past its limit is made and then refused
 abbrev pub mostBump : ℕ
 mostBump = 2 ^ 40
 

@@ -1,4 +1,4 @@
--- The turns of a finish in numbers, as the code takes them: a whole page at the top is topSwapped, or a page is taken. Only this crate's
+-- The turns of a finish in numbers, as the code takes them: a whole page at the top is swapped, or a page is taken. Only this crate's
 -- private functions cite these; `PlanLaws` says that they are the turns of `Plan`.
 use Prim.Native.Nat.{ℕ, zero, suc, _+_, _-_, _*_, _^_, _≤_, _<_}
 use mathlib.Core.List.{List, [], _∷_, _++_}

@@ -166,7 +166,7 @@ fn swap_head(c: usize, pages: &[u32], entries: &[u32], out: &mut [u32], p: Plan)
     take_page(c, pages, entries, out, swapped)
 }
 
-// Takes pages until the room is enough, or until a whole page comes to the top: then the head is topSwapped.
+// Takes pages until the room is enough, or until a whole page comes to the top: then the head is swapped.
 fn take_page(c: usize, pages: &[u32], entries: &[u32], out: &mut [u32], p: Plan) -> Plan
     requires { ⌜ Due c (wholeList (now pages) (now entries)) p × (wholeOf c p ≡ false) ⌝ }
     ensures { λ r. ⌜ Planned c (wholeList (before pages) (before entries)) p (before out) r (after out) ⌝ }

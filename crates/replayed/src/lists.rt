@@ -1,6 +1,9 @@
 // Reading a list, handing out and finishing, at the page size that comes first in each line.
 use crate::pages::entries_agree;
 use crate::pages::words;
+use lookup::lookup::lookup;
+use page::number::PageNumber;
+use page::size::PageSize;
 use record_line::numbers::FILLER;
 use record_line::numbers::after_byte_array;
 use record_line::numbers::after_bytes;
@@ -19,9 +22,6 @@ use record_line::numbers::plus;
 use record_line::numbers::taken_bytes;
 use record_line::numbers::taken_words;
 use record_line::numbers::word;
-use lookup::lookup::lookup;
-use page::number::PageNumber;
-use page::size::PageSize;
 use sized::sized_finish;
 use sized::sized_hand_out;
 use sized::sized_read_list;

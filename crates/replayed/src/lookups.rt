@@ -1,6 +1,9 @@
 // Page lookup: among the pending pages of a save, and in the store.
 use crate::pages::part_agrees;
 use crate::pages::words;
+use lookup::lookup::lookup;
+use page::number::PageNumber;
+use page::size::PageSize;
 use record_line::numbers::FILLER;
 use record_line::numbers::after_byte_array;
 use record_line::numbers::after_reply;
@@ -13,9 +16,6 @@ use record_line::numbers::number;
 use record_line::numbers::taken_bytes;
 use record_line::numbers::taken_words;
 use record_line::numbers::word;
-use lookup::lookup::lookup;
-use page::number::PageNumber;
-use page::size::PageSize;
 use sized::sized_lookup;
 
 // page size, page, numbers[] pending[] store[] | status out
@@ -49,18 +49,19 @@ fn lookup_with<'a>(line: &[u64], numbers: &[u32], pending: &'a [u8], store: &'a 
         word(line, 2),
         &mut out,
     );
-    if !is_part(line, numbers, pending, store, &out) {
+    if !is_part(line, numbers, pending, store, status, &out) {
         return false;
     }
     after_reply(line, behind_store, status, &out) == line.len()
 }
 
-// Whether the page, as a part of one of the two slices, stands where the answer says; after a refusal it is empty.
+// Whether the page, as a part of one of the two slices, stands where the answer says, and is empty after a refusal.
 fn is_part<'a>(
     line: &[u64],
     numbers: &[u32],
     pending: &'a [u8],
     store: &'a [u8],
+    status: u32,
     out: &[u64; 8],
 ) -> bool {
     let page_size = PageSize(words(number(line, 1)) as usize);
@@ -71,10 +72,13 @@ fn is_part<'a>(
         store,
         PageNumber(word(line, 2)),
     );
-    let at = out[1] as usize;
-    if page.len() == 0 {
-        return true;
+    if status != 0 {
+        return page.len() == 0;
     }
+    if page.len() == 0 {
+        return false;
+    }
+    let at = out[1] as usize;
     if out[0] == 0 {
         return part_agrees(page, pending, at);
     }

@@ -1,6 +1,11 @@
 // Values: writing their pages and cells, reading and deleting them.
 use crate::pages::numbers_agree;
 use crate::pages::words;
+use lookup::lookup::lookup;
+use mopsienna::values::mopsienna_decode_cell;
+use mopsienna::values::mopsienna_encode_cell;
+use page::number::PageNumber;
+use page::size::PageSize;
 use record_line::numbers::BYTE_FILLER;
 use record_line::numbers::FILLER;
 use record_line::numbers::after_byte_array;
@@ -21,11 +26,6 @@ use record_line::numbers::plus;
 use record_line::numbers::taken_bytes;
 use record_line::numbers::taken_hash;
 use record_line::numbers::taken_words;
-use lookup::lookup::lookup;
-use mopsienna::values::mopsienna_decode_cell;
-use mopsienna::values::mopsienna_encode_cell;
-use page::number::PageNumber;
-use page::size::PageSize;
 use sized::sized_delete_value;
 use sized::sized_read_value;
 use sized::sized_write_value_page;

@@ -29,7 +29,7 @@ use Rattle.allocator.specs.OpenSave.{Save}
 use Rattle.finisher.specs.Finish.{Finished, FinishAnswer, finishAnswer, finish, FinishRoom, FinishLent, bytesOfPages, lentPages, stored, finishInto}
 use Rattle.finisher.proofs.FinishLaws.{succeeds}
 use Rattle.rollback.specs.Calls.{Run}
-use Rattle.rollback.specs.Rollback.{GetsList, GetsValue, SaveOf, ToWrite, listPage}
+use Rattle.rollback.specs.Rollback.{GetsList, GetsValue, OpenedOn, ToWrite, listPage}
 use Rattle.rollback.proofs.ReadersLaws.{behind}
 use Rattle.rollback.proofs.WritesLaws.{written-whole}
 
@@ -80,7 +80,7 @@ openWith t size bump recorded = record { pageTable = t .pages; entryTable = t .e
 
 -- tables that a list was put into open a save of it
 list-opens : (t : ListTables) (l : FreeList) (bump recorded : ℕ) → length (l .pages) ≤ length (t .pages) → length (l .entries) ≤ length (t .entries)
-    → SaveOf l bump (openWith (listIn t l) (sizeOf l) bump recorded)
+    → OpenedOn l bump (openWith (listIn t l) (sizeOf l) bump recorded)
 list-opens t l bump recorded h k =
     let p = take-sets (t .pages) (l .pages) h in
     let q = take-sets (t .entries) (l .entries) k in
@@ -88,10 +88,10 @@ list-opens t l bump recorded h k =
 
 -- so do those that it was read into
 pub read-opens : (s : ℕ) (store : List ℕ) (head : ℕ) (l : FreeList) → GetsList s store head l → (t : ListTables) → hasRoom t l ≡ true → (bump recorded : ℕ)
-    → SaveOf l bump (openWith (readListInto s store false head t .lent) (sizeOf l) bump recorded)
+    → OpenedOn l bump (openWith (readListInto s store false head t .lent) (sizeOf l) bump recorded)
 read-opens s store head l gets t room bump recorded =
     let fits = and-true (leb (length (l .pages)) (length (t .pages))) _ room in
-    subst (λ (e : Effect ListSize ListTables). SaveOf l bump (openWith (e .lent) (sizeOf l) bump recorded)) (sym (gets t room))
+    subst (λ (e : Effect ListSize ListTables). OpenedOn l bump (openWith (e .lent) (sizeOf l) bump recorded)) (sym (gets t room))
     (list-opens t l bump recorded (leb-true _ (length (t .pages)) (fits .0)) (leb-true _ (length (t .entries)) (fits .1)))
 
 -- ---- a finish that answers
@@ -102,7 +102,7 @@ pub record LentPages (s : ℕ) (v : Save) (freed : List ℕ) (room : FinishRoom)
   pub succeeded : finish s v freed (length (room .buffer)) (length (room .numbers)) ≡ answer result
   pub answered : finishAnswer v result ≡ a
   pub writes : lentPages s (lent .room .buffer) (lent .room .numbers) 0 (a .count) ≡ result .written
-  pub opens : SaveOf (result .list) (result .bump) (openWith (lent .tables) (record { P = a .P; L = a .L }) (a .bump) (a .recorded))
+  pub opens : OpenedOn (result .list) (result .bump) (openWith (lent .tables) (record { P = a .P; L = a .L }) (a .bump) (a .recorded))
 
 module _ {s : ℕ} (size : IsPageSize s) (v : Save) (freed : List ℕ) (room : FinishRoom) where
   abbrev before : FinishLent

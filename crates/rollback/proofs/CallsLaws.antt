@@ -19,7 +19,7 @@ use Rattle.allocator.specs.OpenSave.{Save, bumped, stateFits, nextNumber, nextS
 use Rattle.finisher.specs.Finish.{Finished, finish}
 use Rattle.finisher.proofs.FreshLaws.{Between, between-mem}
 use Rattle.rollback.specs.Calls.{Call, handOutCall, finishCall, Run, afterHandOut, afterFinish, run}
-use Rattle.rollback.specs.Rollback.{SaveOf}
+use Rattle.rollback.specs.Rollback.{OpenedOn}
 
 -- a number that is free at the start of the save: an entry of the first list, or one past its bump
 abbrev pub Free : FreeList → ℕ → ℕ → Type 0
@@ -39,7 +39,7 @@ handed-more l bump h k n le (inr b) = inr (b .0, omega (arith, b .1))
 
 module _ (s : ℕ) (l : FreeList) (bump : ℕ) where
   -- the next number is handed out with one more in the count
-  next-handed : (v : Save) → SaveOf l bump v → Handed l bump (suc (v .handed)) (nextNumber v)
+  next-handed : (v : Save) → OpenedOn l bump v → Handed l bump (suc (v .handed)) (nextNumber v)
   unfolding nextNumber
   next-handed v o =
       cond-cases (Handed l bump (suc (v .handed))) (ltb (v .handed) (v .L)) (getD (v .entryTable) (v .L - suc (v .handed)) 0) (bumped v)
@@ -56,10 +56,10 @@ module _ (s : ℕ) (l : FreeList) (bump : ℕ) where
   -- what a number handed out leaves
   pub record Next (v : Save) (a : HandedOut) : Type 0 where
     pub number : Handed l bump (suc (v .handed)) (a .number)
-    pub of : SaveOf l bump (a .save)
+    pub of : OpenedOn l bump (a .save)
     pub count : a .save .handed ≡ suc (v .handed)
 
-  hand-out : (v : Save) (a : HandedOut) → SaveOf l bump v → handOut s v ≡ answer a → Next v a
+  hand-out : (v : Save) (a : HandedOut) → OpenedOn l bump v → handOut s v ≡ answer a → Next v a
   unfolding handOut
   hand-out v a o e =
       let c = check-answer (stateFits s v) 1 [] _ e in
@@ -73,13 +73,13 @@ module _ (s : ℕ) (l : FreeList) (bump : ℕ) where
   -- what the calls leave: the last state of the save, which the numbers handed out and the finish are of
   pub record Ran (v : Save) (r : Run) : Type 0 where
     pub last : Save
-    pub of : SaveOf l bump last
+    pub of : OpenedOn l bump last
     pub later : v .handed ≤ last .handed
     pub numbers : (n : ℕ) → List·Memᴰ n (r .numbers) → Handed l bump (last .handed) n
     pub finishes : Finishes last r
 
-  after-hand-out : (v : Save) (next : Save → Run) (stay : Run) (o : Outcome HandedOut) → SaveOf l bump v → handOut s v ≡ o
-      → ((w : Save) → SaveOf l bump w → Ran w (next w)) → Ran v stay → Ran v (afterHandOut next stay o)
+  after-hand-out : (v : Save) (next : Save → Run) (stay : Run) (o : Outcome HandedOut) → OpenedOn l bump v → handOut s v ≡ o
+      → ((w : Save) → OpenedOn l bump w → Ran w (next w)) → Ran v stay → Ran v (afterHandOut next stay o)
   after-hand-out v next stay (answer a) o e more r =
       let n = hand-out v a o e in
       let q = more (a .save) (n .of) in
@@ -96,7 +96,7 @@ module _ (s : ℕ) (l : FreeList) (bump : ℕ) where
       go m n q (inr h) = q .numbers m h
   after-hand-out v next stay (refused n vs) o e more r = r
 
-  after-finish : (v : Save) (freed : List ℕ) (bytesLent numbersLent : ℕ) (stay : Run) (o : Outcome Finished) → SaveOf l bump v
+  after-finish : (v : Save) (freed : List ℕ) (bytesLent numbersLent : ℕ) (stay : Run) (o : Outcome Finished) → OpenedOn l bump v
       → finish s v freed bytesLent numbersLent ≡ o → Ran v stay → Ran v (afterFinish freed stay o)
   after-finish v freed bytesLent numbersLent stay (answer f) o e r =
       record { last = v; of = o; later = omega arith; numbers = λ n m. absurd (List·Memᴰ·not-nil m); finishes = λ g m. (bytesLent, numbersLent, e ∙ ap answer (sym (only m))) }
@@ -106,7 +106,7 @@ module _ (s : ℕ) (l : FreeList) (bump : ℕ) where
   after-finish v freed bytesLent numbersLent stay (refused n vs) o e r = r
 
   -- every list of calls
-  pub run-ran : (calls : List Call) (v : Save) → SaveOf l bump v → Ran v (run s v calls)
+  pub run-ran : (calls : List Call) (v : Save) → OpenedOn l bump v → Ran v (run s v calls)
   unfolding run
   run-ran [] v o = record { last = v; of = o; later = omega arith; numbers = λ n m. absurd (List·Memᴰ·not-nil m); finishes = λ f m. absurd (List·Memᴰ·not-nil m) }
   run-ran (handOutCall ∷ calls) v o = after-hand-out v (λ (next : Save). run s next calls) (run s v calls) (handOut s v) o refl (λ w p. run-ran calls w p) (run-ran calls v o)

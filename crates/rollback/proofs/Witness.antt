@@ -28,7 +28,7 @@ use Rattle.preallocate.specs.Plan.{pagesFor, room, pagesAfter, pushedAfter, fir
 use Rattle.allocator.specs.OpenSave.{Save, stateFits, nextNumber, nextRecorded, handOut}
 use Rattle.finisher.specs.Finish.{newList, encodedPage, encodedPages, Finished, carriedOut, finishList, firstBad, finished, finish}
 use Rattle.rollback.specs.Calls.{Call, handOutCall, finishCall, Run, run}
-use Rattle.rollback.specs.Rollback.{GetsList, Value, GetsValue, State, Good, SaveOf, ToWrite, valuePage as valuePageAt, listPage, Cut}
+use Rattle.rollback.specs.Rollback.{GetsList, Value, GetsValue, State, Good, OpenedOn, ToWrite, valuePage as valuePageAt, listPage, Cut}
 use Rattle.rollback.proofs.ReadersLaws.{gets-list}
 use Rattle.rollback.proofs.BridgeLaws.{written-value}
 use Rattle.rollback.proofs.RollbackLaws.{rollback}
@@ -121,7 +121,7 @@ good =
 save : Save
 save = record { pageTable = 1 ∷ 0 ∷ []; entryTable = 2 ∷ 3 ∷ 0 ∷ []; P = 1; L = 2; bump = 5; recorded = 6; handed = 0 }
 
-opened : SaveOf (first .list) (first .bump) save
+opened : OpenedOn (first .list) (first .bump) save
 unfolding first list save
 opened = record { list = refl; P = refl; L = refl; start = refl }
 

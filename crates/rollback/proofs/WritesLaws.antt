@@ -31,7 +31,7 @@ use Rattle.finisher.proofs.NewNumbersLaws.{count-new-pages}
 use Rattle.finisher.proofs.EncodedLaws.{encoded-long, decoded-before, decoded-entries}
 use Rattle.finisher.proofs.WrittenLaws.{written-old}
 use Rattle.finisher.proofs.FinishLaws.{Succeeds}
-use Rattle.rollback.specs.Rollback.{SaveOf}
+use Rattle.rollback.specs.Rollback.{OpenedOn}
 use Rattle.rollback.proofs.CallsLaws.{Free}
 
 -- numbers that differ are counted once at most
@@ -170,7 +170,7 @@ module _ {s : ℕ} (size : IsPageSize s) {store : List ℕ} {l : FreeList} (stor
 
   -- what a finish of a save of the first list writes
   pub finish-writes : {bump : ℕ} → Different (l .pages ++ l .entries) → ((n : ℕ) → List·Memᴰ n (l .pages ++ l .entries) → n < bump)
-      → {v : Save} → SaveOf l bump v → {freed : List ℕ} {f : Finished} → Succeeds s v freed f → (w : Write) → List·Memᴰ w (f .written) → MayWrite s store l bump w
+      → {v : Save} → OpenedOn l bump v → {freed : List ℕ} {f : Finished} → Succeeds s v freed f → (w : Write) → List·Memᴰ w (f .written) → MayWrite s store l bump w
   finish-writes {bump} different below {v} of {freed} done w m =
       let k = min (v .handed) (length (l .entries)) in
       let raised : bump ≤ bumped v = omega (arith, of .start) in

@@ -57,7 +57,7 @@ pub record Good (s : ℕ) (a : State) : Type 0 where
 
 -- an open save of this list and bump: the list stands at the front of its tables; nothing is asked of what they hold past it, nor of the
 -- recorded length and the count
-pub record SaveOf (l : FreeList) (bump : ℕ) (v : Save) : Type 0 where
+pub record OpenedOn (l : FreeList) (bump : ℕ) (v : Save) : Type 0 where
   pub list : listOf v ≡ l
   pub P : v .P ≡ length (l .pages)
   pub L : v .L ≡ length (l .entries)
@@ -71,7 +71,7 @@ pub data ToWrite (s : ℕ) (r : Run) (w : Write) : Type 0 where
 -- the next save, cut anywhere: its calls; the bytes by which the store has grown; the pages written, each whole, in any order
 pub record Cut (s : ℕ) (a : State) (after : List ℕ) : Type 0 where
   pub save : Save
-  pub opened : SaveOf (a .list) (a .bump) save
+  pub opened : OpenedOn (a .list) (a .bump) save
   pub calls : List Call
   pub extra : List ℕ
   pub writes : List Write

@@ -1,11 +1,11 @@
 // The operations of the C interface at any page size, for the comparison with the Rust and the recorded answers.
 //
 // A page has so many words of four bytes more than the four that the least page has.
-ghost use Rattle.sized.specs.Sizes.{pagesOf};
+ghost use Rattle.sized.specs.Sizes.{pageSizeOf};
 ghost use Rattle.calls.specs.Lists.{ReadsList};
 ghost use Rattle.calls.specs.Lookups.{LooksUp};
 ghost use Rattle.calls.specs.Saves.{HandsOut, Finishes};
-ghost use Rattle.calls.specs.Totals.{Totals};
+ghost use Rattle.calls.specs.Totals.{TellsTotal};
 ghost use Rattle.calls.specs.Values.{WritesPage, EncodesCell, DecodesCell, ReadsValue, DeletesValue};
 use page::size::PageSize;
 
@@ -18,7 +18,7 @@ pub extern "C" fn sized_read_list(
     entries: &mut [u32],
     out: &mut [u64; 8],
 ) -> u32
-    ensures { λ r. ⌜ ReadsList (pagesOf words) store head pages entries out r ⌝ }
+    ensures { λ r. ⌜ ReadsList (pageSizeOf words) store head pages entries out r ⌝ }
 {
     calls::lists::read_list(PageSize(words as usize), store, head, pages, entries, out)
 }
@@ -32,7 +32,7 @@ pub extern "C" fn sized_lookup(
     page: u32,
     out: &mut [u64; 8],
 ) -> u32
-    ensures { λ r. ⌜ LooksUp (pagesOf words) numbers pending store page out r ⌝ }
+    ensures { λ r. ⌜ LooksUp (pageSizeOf words) numbers pending store page out r ⌝ }
 {
     calls::lookups::lookup(PageSize(words as usize), numbers, pending, store, page, out)
 }
@@ -49,7 +49,7 @@ pub extern "C" fn sized_hand_out(
     entries: &[u32],
     out: &mut [u64; 8],
 ) -> u32
-    ensures { λ r. ⌜ HandsOut (pagesOf words) bump length p l count pages entries out r ⌝ }
+    ensures { λ r. ⌜ HandsOut (pageSizeOf words) bump length p l count pages entries out r ⌝ }
 {
     calls::saves::hand_out(
         PageSize(words as usize),
@@ -79,7 +79,7 @@ pub extern "C" fn sized_finish(
     numbers: &mut [u32],
     out: &mut [u64; 8],
 ) -> u32
-    ensures { λ r. ⌜ Finishes (pagesOf words) bump length p l count pages entries freed buffer numbers out r ⌝ }
+    ensures { λ r. ⌜ Finishes (pageSizeOf words) bump length p l count pages entries freed buffer numbers out r ⌝ }
 {
     calls::saves::finish(
         PageSize(words as usize),
@@ -99,7 +99,7 @@ pub extern "C" fn sized_finish(
 
 #[no_mangle]
 pub extern "C" fn sized_total(words: u64, size: u64, out: &mut [u64; 8]) -> u32
-    ensures { λ r. ⌜ Totals (pagesOf words) size out r ⌝ }
+    ensures { λ r. ⌜ TellsTotal (pageSizeOf words) size out r ⌝ }
 {
     calls::totals::total(PageSize(words as usize), size, out)
 }
@@ -112,7 +112,7 @@ pub extern "C" fn sized_write_value_page(
     index: u64,
     page: &mut [u8],
 ) -> u32
-    ensures { λ r. ⌜ WritesPage (pagesOf words) value numbers index page r ⌝ }
+    ensures { λ r. ⌜ WritesPage (pageSizeOf words) value numbers index page r ⌝ }
 {
     calls::values::write_value_page(PageSize(words as usize), value, numbers, index, page)
 }
@@ -125,7 +125,7 @@ pub extern "C" fn sized_encode_cell(
     numbers: &[u32],
     buffer: &mut [u8],
 ) -> u32
-    ensures { λ r. ⌜ EncodesCell (pagesOf words) size hash numbers buffer r ⌝ }
+    ensures { λ r. ⌜ EncodesCell (pageSizeOf words) size hash numbers buffer r ⌝ }
 {
     calls::values::encode_cell(PageSize(words as usize), size, hash, numbers, buffer)
 }
@@ -137,7 +137,7 @@ pub extern "C" fn sized_decode_cell(
     hash: &mut [u8; 32],
     out: &mut [u64; 8],
 ) -> u32
-    ensures { λ r. ⌜ DecodesCell (pagesOf words) cell hash out r ⌝ }
+    ensures { λ r. ⌜ DecodesCell (pageSizeOf words) cell hash out r ⌝ }
 {
     calls::values::decode_cell(PageSize(words as usize), cell, hash, out)
 }
@@ -151,7 +151,7 @@ pub extern "C" fn sized_read_value(
     value: &mut [u8],
     out: &mut [u64; 8],
 ) -> u32
-    ensures { λ r. ⌜ ReadsValue (pagesOf words) cell store numbers value out r ⌝ }
+    ensures { λ r. ⌜ ReadsValue (pageSizeOf words) cell store numbers value out r ⌝ }
 {
     calls::values::read_value(PageSize(words as usize), cell, store, numbers, value, out)
 }
@@ -164,7 +164,7 @@ pub extern "C" fn sized_delete_value(
     numbers: &mut [u32],
     out: &mut [u64; 8],
 ) -> u32
-    ensures { λ r. ⌜ DeletesValue (pagesOf words) cell store numbers out r ⌝ }
+    ensures { λ r. ⌜ DeletesValue (pageSizeOf words) cell store numbers out r ⌝ }
 {
     calls::values::delete_value(PageSize(words as usize), cell, store, numbers, out)
 }
