@@ -1,4 +1,4 @@
--- The list that a finish makes has the shape; and when it is fragmented.
+-- The list that a finish makes has the shape.
 -- From the room that the plan ends with. Assumes nothing.
 use Prim.Native.Nat.{ℕ, _+_, _*_, _-_, _≤_}
 use native.Mathlib.Nat.{mul-add}
@@ -8,22 +8,14 @@ use mathlib.Core.Bool.{true, false, _&&_}
 use mathlib.Core.List.{List}
 use lib.Dec.{eqb}
 use lib.ListN.{length}
-use borrow.Author.Tests.{le-leb, eq-eqb}
-use Rattle.free_list.specs.Shape.{FreeList, isShape, isFragmented}
-use Rattle.free_list.proofs.BelowLaws.{fragmented-is}
+use Rattle.free_list.specs.Shape.{FreeList, isShape}
 use Rattle.free_list.proofs.ShapeLaws.{bounds-shape}
 use Rattle.preallocate.specs.Plan.{Plan, room, planOf}
 use Rattle.preallocate.proofs.SomeLaws.{plan-some}
 use Rattle.preallocate.proofs.PlanLaws.{plan-enough, plan-tight, plan-kept, plan-left, plan-fits}
 use Rattle.finisher.specs.Finish.{newList}
+use Rattle.finisher.specs.Theorems.{NewShape}
 use Rattle.finisher.proofs.NewListLaws.{length-new-pages, length-new-entries}
-
--- A list is fragmented exactly where it has two pages or more, and just the entries of one page less.
-pub fragmented-exactly : (c P L : ℕ)
-    → (isFragmented c P L ≡ true → (2 ≤ P) × (L ≡ c * (P - 1)))
-    × ((2 ≤ P) × (L ≡ c * (P - 1)) → isFragmented c P L ≡ true)
-unfolding isFragmented
-fragmented-exactly c P L = (fragmented-is c P L, λ h. rw (le-leb 2 P (h .0), eq-eqb L (c * (P - 1)) (h .1)))
 
 module _ (c : ℕ) (l : FreeList) (k : ℕ) (freed : List ℕ) (bump : ℕ) (two : 2 ≤ c)
     (shape : isShape c (length (l .pages)) (length (l .entries)) ≡ true) where
@@ -60,3 +52,6 @@ module _ (c : ℕ) (l : FreeList) (k : ℕ) (freed : List ℕ) (bump : ℕ) (two
       rw (length-pages-planned, length-entries-planned)
       (bounds-shape c (plan .kept + length (plan .fresh)) (plan .left + length (plan .pushed))
       (omega (arith, plan-some c l k freed bump (omega arith) shape kL changed)) planned-few planned-fits)
+
+pub shape-kept : (c : ℕ) → NewShape c
+shape-kept c two l k freed bump shape = new-shape c l k freed bump two shape

@@ -1,8 +1,9 @@
 -- What is shown of finished saves.
 use Prim.Native.Nat.{ℕ, _+_, _-_, _<_, _≤_}
 use mathlib.Core.Path.{_≡_}
-use mathlib.Core.Bool.{true}
+use mathlib.Core.Bool.{true, false, _&&_}
 use mathlib.Core.List.{List, List·Memᴰ}
+use lib.Dec.{eqb}
 use lib.ListN.{length, drop}
 use Rattle.laws.specs.Counting.{count, numbersFrom}
 use Rattle.refusal.specs.Outcome.{answer}
@@ -20,6 +21,12 @@ Conserved c = 1 ≤ c → (l : FreeList) (k : ℕ) (freed : List ℕ) (bump : �
     → let t = planOf c l k freed bump in
     count x (newList l t .pages) + count x (newList l t .entries) + count x (drop (length (l .entries) - k) (l .entries))
     ≡ count x (l .pages) + count x (l .entries) + count x freed + count x (numbersFrom bump (t .bump - bump))
+
+-- Where something was popped or freed, the new list has the shape.
+abbrev pub NewShape : ℕ → Type 0
+NewShape c = 2 ≤ c → (l : FreeList) (k : ℕ) (freed : List ℕ) (bump : ℕ) → isShape c (length (l .pages)) (length (l .entries)) ≡ true
+    → k ≤ length (l .entries) → eqb k 0 && eqb (length freed) 0 ≡ false
+    → let m = newList l (planOf c l k freed bump) in isShape c (length (m .pages)) (length (m .entries)) ≡ true
 
 -- What is asked of the list that a finish starts from, and of its bump. That the list was read tells only that its pages differ.
 -- `once`: each number stands in it once, as a page or as an entry; else a new page could be written over a page that is kept.
