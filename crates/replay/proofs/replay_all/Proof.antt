@@ -13,14 +13,8 @@ Inv-loop input₀ table₀ progress₀ turns₀ input table progress turns = (le
 abbrev μ-loop : tie.MeasureT-loop
 μ-loop input₀ table₀ progress₀ turns₀ input table progress turns = turns
 
-new-requires : tie.Need-new-requires Inv-loop μ-loop
-new-requires c κs = search needs
-
 loop-holds : tie.Need-loop-holds Inv-loop μ-loop
 loop-holds c = (refl, refl)
-
-replay-some-requires : tie.Need-replay-some-requires Inv-loop μ-loop
-replay-some-requires c κs = search needs
 
 sub-turns : tie.Need-sub-turns Inv-loop μ-loop
 sub-turns c = omega arith
@@ -30,9 +24,6 @@ loop-less c = omega arith
 
 loop-again : tie.Need-loop-again Inv-loop μ-loop
 loop-again c = omega (arith, c .before .before .before .before .replay-some .kept)
-
-print-counts-requires : tie.Need-print-counts-requires Inv-loop μ-loop
-print-counts-requires c κs = search needs
 
 same-length : tie.Need-same-length Inv-loop μ-loop
 same-length c = c .before .before .loop .inv .0
@@ -49,13 +40,13 @@ replay-all-spec =
     (tie.spec
     Inv-loop
     μ-loop
-    new-requires
+    (search needs)
     loop-holds
-    replay-some-requires
+    (search needs)
     sub-turns
     loop-less
     loop-again
-    print-counts-requires
+    (search needs)
     same-length
     same-length-2
     returns)

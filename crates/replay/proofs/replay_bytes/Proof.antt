@@ -20,9 +20,6 @@ loop-holds c = refl
 shared-slice-read-replay-byte : tie.Need-shared-slice-read-replay-byte Inv-loop μ-loop
 shared-slice-read-replay-byte c = omega arith
 
-replay-byte-requires : tie.Need-replay-byte-requires Inv-loop μ-loop
-replay-byte-requires c κs = search needs
-
 add-i : tie.Need-add-i Inv-loop μ-loop
 add-i c = omega arith
 
@@ -46,7 +43,7 @@ replay-bytes-spec =
     μ-loop
     loop-holds
     shared-slice-read-replay-byte
-    replay-byte-requires
+    (search needs)
     add-i
     loop-less
     loop-again

@@ -7,11 +7,8 @@ use borrow.Author.Needs.{needs}
 use Rattle.replay.proofs.within.Statement.{statement}
 use Rattle.replay.proofs.within.Tie as tie
 
-returns : tie.Need-returns
-returns c = search needs
-
 returns-2 : tie.Need-returns-2
 returns-2 c = (omega arith, sym (length-take-le _ (c .before .args .table .now) (omega arith)))
 
 pub within-spec : {M : Type 1} → statement M
-within-spec = tie.close (tie.spec returns returns-2)
+within-spec = tie.close (tie.spec (search needs) returns-2)

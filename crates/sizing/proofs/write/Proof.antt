@@ -9,11 +9,5 @@ use Rattle.sizing.proofs.write.Tie as tie
 slice-aggregate-write-all : tie.Need-slice-aggregate-write-all
 slice-aggregate-write-all c = sym (length-take-le _ _ (c .before .before .pre))
 
-write-all-requires : tie.Need-write-all-requires
-write-all-requires c κs = search needs
-
-returns : tie.Need-returns
-returns c = search needs
-
 pub write-spec : {M : Type 1} → statement M
-write-spec = tie.close (tie.spec slice-aggregate-write-all write-all-requires returns)
+write-spec = tie.close (tie.spec slice-aggregate-write-all (search needs) (search needs))

@@ -25,29 +25,17 @@ save c = saveOf (start c .args .start) (start c .args .«open») (start c .args 
 state-is : (c : tie.After-state-fits) {q : Bool} → c .state-fits .result ≡ q → stateFits (pageBytes (start c .args .page-size)) (save c) ≡ q
 state-is c e = rw (← c .before .bytes .ensures) (sym (c .state-fits .ensures (start c .args .«open»)) ∙ e)
 
-bytes-requires : tie.Need-bytes-requires
-bytes-requires c κs = search needs
-
 state-fits-requires : tie.Need-state-fits-requires
 state-fits-requires c κs = rw (c .bytes .ensures) (page-bytes (c .before .before .before .args .page-size))
 
 returns : tie.Need-returns
 returns c = refused-state _ _ (state-is (c .before) (not-true _ (c .if1 .taken)))
 
-sub-last : tie.Need-sub-last
-sub-last c = search needs
-
-sub-last-2 : tie.Need-sub-last-2
-sub-last-2 c = search needs
-
 mul-counted-up : tie.Need-mul-counted-up
 mul-counted-up c = let h = stands _ _ (state-is (c .before .before) (not-false _ (c .before .if1 .left))) in omega arith
 
 shared-slice-read-counted-up : tie.Need-shared-slice-read-counted-up
 shared-slice-read-counted-up c = let h = stands _ _ (state-is (c .before .before .before) (not-false _ (c .before .before .if1 .left))) in omega arith
-
-counted-up-requires : tie.Need-counted-up-requires
-counted-up-requires c κs = search needs
 
 returns-2 : tie.Need-returns-2
 returns-2 c =
@@ -59,22 +47,10 @@ returns-2 c =
 sub-room : tie.Need-sub-room
 sub-room c = stands _ _ (state-is (c .before .before .before) (not-false _ (c .before .before .if1 .left))) .most
 
-cast-room : tie.Need-cast-room
-cast-room c = search needs
-
 returns-3 : tie.Need-returns-3
 returns-3 c =
     let state = state-is (c .before .before .before .before) (not-false _ (c .before .before .before .if1 .left)) in
     refused-limit _ _ state (c .before .before .if2 .left) (omega (arith, stands _ _ state .most))
-
-cast-number : tie.Need-cast-number
-cast-number c = search needs
-
-add-number : tie.Need-add-number
-add-number c = search needs
-
-recorded-for-requires : tie.Need-recorded-for-requires
-recorded-for-requires c κs = search needs
 
 counted-up-requires-2 : tie.Need-counted-up-requires-2
 counted-up-requires-2 c κs = let h = stands _ _ (state-is (c .before .before .before .before .before .before) (not-false _ (c .before .before .before .before .before .if1 .left))) in omega arith
@@ -90,20 +66,20 @@ pub allocate-spec : {M : Type 1} → statement M
 allocate-spec =
     tie.close
     (tie.spec
-    bytes-requires
+    (search needs)
     state-fits-requires
     returns
-    sub-last
-    sub-last-2
+    (search needs)
+    (search needs)
     mul-counted-up
     shared-slice-read-counted-up
-    counted-up-requires
+    (search needs)
     returns-2
     sub-room
-    cast-room
+    (search needs)
     returns-3
-    cast-number
-    add-number
-    recorded-for-requires
+    (search needs)
+    (search needs)
+    (search needs)
     counted-up-requires-2
     returns-4)

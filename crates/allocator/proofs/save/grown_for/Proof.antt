@@ -22,15 +22,6 @@ same e = cc
 never : {x n : ℕ} {vs : List ℕ} → refused n vs ≡ answer x → ⊥
 never e = let z : _≡_ {A = ℕ} 0 1 = cc in omega arith
 
-grow-requires : tie.Need-grow-requires
-grow-requires c κs = search needs
-
-enum-known-grown : tie.Need-enum-known-grown
-enum-known-grown c = search needs
-
-enum-told : tie.Need-enum-told
-enum-told c = search needs
-
 returns : tie.Need-returns
 returns c = same (ap grownOutcome (sym (c .before .grown .given .1)) ∙ c .before .before .before .grow .ensures ∙ grow-is _ (c .before .before .before .before .pre))
 
@@ -38,4 +29,4 @@ returns-2 : tie.Need-returns-2
 returns-2 c = absurd (never (ap grownOutcome (sym (c .enum-told .given .1)) ∙ c .before .before .grow .ensures ∙ grow-is _ (c .before .before .before .pre)))
 
 pub grown-for-spec : {M : Type 1} → statement M
-grown-for-spec = tie.close (tie.spec grow-requires enum-known-grown enum-told returns returns-2)
+grown-for-spec = tie.close (tie.spec (search needs) (search needs) (search needs) returns returns-2)

@@ -8,24 +8,12 @@ use Rattle.allocator.proofs.save.shape_fits.Tie as tie
 returns : tie.Need-returns
 returns c = shape-none _ _ _ (c .if1 .taken)
 
-sub-if2 : tie.Need-sub-if2
-sub-if2 c = search needs
-
-div-if2 : tie.Need-div-if2
-div-if2 c = search needs
-
 returns-2 : tie.Need-returns-2
 returns-2 c = shape-few _ _ _ (c .before .before .pre) (c .before .if1 .left) (c .if2 .taken)
-
-sub-result : tie.Need-sub-result
-sub-result c = search needs
-
-div-result : tie.Need-div-result
-div-result c = search needs
 
 returns-3 : tie.Need-returns-3
 returns-3 c = shape-enough _ _ _ (c .before .before .pre) (c .before .if1 .left) (c .if2 .left)
 
 pub shape-fits-spec : {M : Type 1} → statement M
 shape-fits-spec =
-    tie.close (tie.spec returns sub-if2 div-if2 returns-2 sub-result div-result returns-3)
+    tie.close (tie.spec returns (search needs) (search needs) returns-2 (search needs) (search needs) returns-3)

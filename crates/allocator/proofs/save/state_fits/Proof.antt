@@ -17,12 +17,6 @@ shape-is c e =
     let start = c .before .before .before .before .args .start in
     sym (c .shape-fits .ensures ∙ ap (λ k. isShape k (start .pages) (start .entries)) (c .before .max-pns-per-page .ensures)) ∙ e
 
-max-pns-per-page-requires : tie.Need-max-pns-per-page-requires
-max-pns-per-page-requires c κs = search needs
-
-shape-fits-requires : tie.Need-shape-fits-requires
-shape-fits-requires c κs = search needs
-
 returns : tie.Need-returns
 unfolding stateFits
 returns c v =
@@ -53,8 +47,8 @@ pub state-fits-spec : {M : Type 1} → statement M
 state-fits-spec =
     tie.close
     (tie.spec
-    max-pns-per-page-requires
-    shape-fits-requires
+    (search needs)
+    (search needs)
     returns
     returns-2
     returns-3

@@ -8,33 +8,6 @@ use borrow.Author.Needs.{needs}
 use Rattle.calls.proofs.lookups.lookup.Statement.{statement}
 use Rattle.calls.proofs.lookups.lookup.Tie as tie
 
-find-requires : tie.Need-find-requires
-find-requires c κs = search needs
-
-enum-known-at : tie.Need-enum-known-at
-enum-known-at c = search needs
-
-element-write-out : tie.Need-element-write-out
-element-write-out c = search needs
-
-element-write-out-2 : tie.Need-element-write-out-2
-element-write-out-2 c = search needs
-
-enum-known-at-2 : tie.Need-enum-known-at-2
-enum-known-at-2 c = search needs
-
-element-write-out-3 : tie.Need-element-write-out-3
-element-write-out-3 c = search needs
-
-element-write-out-4 : tie.Need-element-write-out-4
-element-write-out-4 c = search needs
-
-enum-known-r : tie.Need-enum-known-r
-enum-known-r c = search needs
-
-report-requires : tie.Need-report-requires
-report-requires c κs = search needs
-
 returns : tie.Need-returns
 returns c = carried findOutcome (bare (c .before .before .before .find .ensures)) (c .before .at .given .1) placeValues _
 
@@ -50,15 +23,15 @@ pub lookup-spec : {M : Type 1} → statement M
 lookup-spec =
     tie.close
     (tie.spec
-    find-requires
-    enum-known-at
-    element-write-out
-    element-write-out-2
-    enum-known-at-2
-    element-write-out-3
-    element-write-out-4
-    enum-known-r
-    report-requires
+    (search needs)
+    (search needs)
+    (search needs)
+    (search needs)
+    (search needs)
+    (search needs)
+    (search needs)
+    (search needs)
+    (search needs)
     returns
     returns-2
     returns-3)

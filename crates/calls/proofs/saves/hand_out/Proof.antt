@@ -8,33 +8,6 @@ use borrow.Author.Needs.{needs}
 use Rattle.calls.proofs.saves.hand_out.Statement.{statement}
 use Rattle.calls.proofs.saves.hand_out.Tie as tie
 
-hand-out-requires : tie.Need-hand-out-requires
-hand-out-requires c κs = search needs
-
-enum-known-answer : tie.Need-enum-known-answer
-enum-known-answer c = search needs
-
-cast-out : tie.Need-cast-out
-cast-out c = search needs
-
-element-write-out : tie.Need-element-write-out
-element-write-out c = search needs
-
-element-write-out-2 : tie.Need-element-write-out-2
-element-write-out-2 c = search needs
-
-cast-out-2 : tie.Need-cast-out-2
-cast-out-2 c = search needs
-
-element-write-out-3 : tie.Need-element-write-out-3
-element-write-out-3 c = search needs
-
-enum-known-answer-2 : tie.Need-enum-known-answer-2
-enum-known-answer-2 c = search needs
-
-report-requires : tie.Need-report-requires
-report-requires c κs = search needs
-
 returns : tie.Need-returns
 returns c =
     let at-handed = c .before .before .before .before .before in
@@ -51,14 +24,14 @@ pub hand-out-spec : {M : Type 1} → statement M
 hand-out-spec =
     tie.close
     (tie.spec
-    hand-out-requires
-    enum-known-answer
-    cast-out
-    element-write-out
-    element-write-out-2
-    cast-out-2
-    element-write-out-3
-    enum-known-answer-2
-    report-requires
+    (search needs)
+    (search needs)
+    (search needs)
+    (search needs)
+    (search needs)
+    (search needs)
+    (search needs)
+    (search needs)
+    (search needs)
     returns
     returns-2)

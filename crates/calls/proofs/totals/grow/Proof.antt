@@ -8,24 +8,6 @@ use borrow.Author.Needs.{needs}
 use Rattle.calls.proofs.totals.grow.Statement.{statement}
 use Rattle.calls.proofs.totals.grow.Tie as tie
 
-grow-requires : tie.Need-grow-requires
-grow-requires c κs = search needs
-
-enum-known-length : tie.Need-enum-known-length
-enum-known-length c = search needs
-
-cast-out : tie.Need-cast-out
-cast-out c = search needs
-
-element-write-out : tie.Need-element-write-out
-element-write-out c = search needs
-
-enum-known-r : tie.Need-enum-known-r
-enum-known-r c = search needs
-
-report-requires : tie.Need-report-requires
-report-requires c κs = search needs
-
 returns : tie.Need-returns
 returns c = carried grownOutcome (bare (c .before .before .before .before .grow .ensures)) (c .before .before .length .given .1) growValues _
 
@@ -38,11 +20,11 @@ pub grow-spec : {M : Type 1} → statement M
 grow-spec =
     tie.close
     (tie.spec
-    grow-requires
-    enum-known-length
-    cast-out
-    element-write-out
-    enum-known-r
-    report-requires
+    (search needs)
+    (search needs)
+    (search needs)
+    (search needs)
+    (search needs)
+    (search needs)
     returns
     returns-2)

@@ -8,27 +8,6 @@ use borrow.Author.Needs.{needs}
 use Rattle.calls.proofs.totals.total.Statement.{statement}
 use Rattle.calls.proofs.totals.total.Tie as tie
 
-page-total-requires : tie.Need-page-total-requires
-page-total-requires c κs = search needs
-
-enum-known-t : tie.Need-enum-known-t
-enum-known-t c = search needs
-
-element-write-out : tie.Need-element-write-out
-element-write-out c = search needs
-
-element-write-out-2 : tie.Need-element-write-out-2
-element-write-out-2 c = search needs
-
-element-write-out-3 : tie.Need-element-write-out-3
-element-write-out-3 c = search needs
-
-enum-known-r : tie.Need-enum-known-r
-enum-known-r c = search needs
-
-report-requires : tie.Need-report-requires
-report-requires c κs = search needs
-
 returns : tie.Need-returns
 returns c =
     let at-total = c .before .before .before in
@@ -44,12 +23,12 @@ pub total-spec : {M : Type 1} → statement M
 total-spec =
     tie.close
     (tie.spec
-    page-total-requires
-    enum-known-t
-    element-write-out
-    element-write-out-2
-    element-write-out-3
-    enum-known-r
-    report-requires
+    (search needs)
+    (search needs)
+    (search needs)
+    (search needs)
+    (search needs)
+    (search needs)
+    (search needs)
     returns
     returns-2)

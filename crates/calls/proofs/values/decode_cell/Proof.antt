@@ -8,24 +8,6 @@ use borrow.Author.Needs.{needs}
 use Rattle.calls.proofs.values.decode_cell.Statement.{statement}
 use Rattle.calls.proofs.values.decode_cell.Tie as tie
 
-decode-cell-requires : tie.Need-decode-cell-requires
-decode-cell-requires c κs = search needs
-
-enum-known-c : tie.Need-enum-known-c
-enum-known-c c = search needs
-
-element-write-out : tie.Need-element-write-out
-element-write-out c = search needs
-
-element-write-out-2 : tie.Need-element-write-out-2
-element-write-out-2 c = search needs
-
-enum-known-r : tie.Need-enum-known-r
-enum-known-r c = search needs
-
-report-requires : tie.Need-report-requires
-report-requires c κs = search needs
-
 returns : tie.Need-returns
 returns c =
     let at-decode = c .before .before .before in
@@ -41,11 +23,11 @@ pub decode-cell-spec : {M : Type 1} → statement M
 decode-cell-spec =
     tie.close
     (tie.spec
-    decode-cell-requires
-    enum-known-c
-    element-write-out
-    element-write-out-2
-    enum-known-r
-    report-requires
+    (search needs)
+    (search needs)
+    (search needs)
+    (search needs)
+    (search needs)
+    (search needs)
     returns
     returns-2)

@@ -32,27 +32,12 @@ write-tables-requires c κs =
       numbers-are = numbers-filled (doable tested) (s .args .numbers .now) enough (filled .fill-numbers .ensures);
     }
 
-one-less-requires : tie.Need-one-less-requires
-one-less-requires c κs = search needs
-
 encode-pages-requires : tie.Need-encode-pages-requires
 encode-pages-requires c κs =
     let written = c .before .before .before .before .before .before .before .before in
     let filled = written .before .before .before .before .before .before in
     let tested = filled .before .before .before .before in
     encodable (doable tested) (written .write-tables .ensures) (c .before .before .before .one-less .ensures) (bytes-enough (start tested .pre))
-
-same-length : tie.Need-same-length
-same-length c = search needs
-
-same-length-2 : tie.Need-same-length-2
-same-length-2 c = search needs
-
-same-length-3 : tie.Need-same-length-3
-same-length-3 c = search needs
-
-same-length-4 : tie.Need-same-length-4
-same-length-4 c = search needs
 
 returns-2 : tie.Need-returns-2
 returns-2 c =
@@ -66,4 +51,4 @@ returns-2 c =
     λ i. record { tables = written .write-tables .ensures i; room = record { buffer = buffer i; numbers = numbers i } }
 
 pub carry-out-spec : {M : Type 1} → statement M
-carry-out-spec = tie.close (tie.spec returns fill-numbers-requires write-tables-requires one-less-requires encode-pages-requires same-length same-length-2 same-length-3 same-length-4 returns-2)
+carry-out-spec = tie.close (tie.spec returns fill-numbers-requires write-tables-requires (search needs) encode-pages-requires (search needs) (search needs) (search needs) (search needs) returns-2)

@@ -36,9 +36,6 @@ place c = omega (arith, c .pre .numbers-fit, written-are (c .pre .doable), writt
 new-pages-requires : tie.Need-new-pages-requires
 new-pages-requires c κs = c .before .before .before .before .before .before .before .pre .doable
 
-same-length : tie.Need-same-length
-same-length c = search needs
-
 returns : tie.Need-returns
 returns c =
     let tested = c .before .before .before .before in
@@ -53,9 +50,6 @@ sub-new-pages c = simp length-set (place (c .before .before .before .before .bef
 
 part-new-pages-start : tie.Need-part-new-pages-start
 part-new-pages-start c = simp length-set (place (c .before .before .before .before .before .before))
-
-part-new-pages-end : tie.Need-part-new-pages-end
-part-new-pages-end c = search needs
 
 new-pages-requires-2 : tie.Need-new-pages-requires-2
 new-pages-requires-2 c κs = c .before .before .before .before .before .before .before .pre .doable
@@ -78,4 +72,4 @@ returns-2 c =
     ∙ ap (sets (s .args .numbers .now) 0) (ap (λ (x : ℕ). x ∷ t .fresh) (ap (λ (p : Counts). p .top) (plan-is (s .pre .doable))) ∙ sym (numbers-some t some))
 
 pub fill-numbers-spec : {M : Type 1} → statement M
-fill-numbers-spec = tie.close (tie.spec new-pages-requires same-length returns slice-write-numbers sub-new-pages part-new-pages-start part-new-pages-end new-pages-requires-2 same-length-2 returns-2)
+fill-numbers-spec = tie.close (tie.spec new-pages-requires (search needs) returns slice-write-numbers sub-new-pages part-new-pages-start (search needs) new-pages-requires-2 same-length-2 returns-2)

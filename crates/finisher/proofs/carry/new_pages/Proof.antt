@@ -11,9 +11,6 @@ use Rattle.finisher.proofs.carry.new_pages.Tie as tie
 plan-requires : tie.Need-plan-requires
 plan-requires c κs = planable (c .before .before .before .before .before .before .pre)
 
-same-length : tie.Need-same-length
-same-length c = search needs
-
 returns : tie.Need-returns
 returns c =
     let s = c .before .before .before .before .before .before .before .before .before in
@@ -21,4 +18,4 @@ returns c =
     e .named (omega (arith, ap (λ (x : Counts). x .bump) (e .counted), bump-planned (s .pre .save), s .pre .limit))
 
 pub new-pages-spec : {M : Type 1} → statement M
-new-pages-spec = tie.close (tie.spec plan-requires same-length returns)
+new-pages-spec = tie.close (tie.spec plan-requires (search needs) returns)

@@ -22,9 +22,6 @@ mended-is c =
     let a = start c .args in
     c .mends .ensures ∙ ap (λ (k : ℕ). eqb (a .work .popped) 0 && isFragmented k (a .save .start .pages) (a .save .start .entries)) (c .before .before .max-pns-per-page .ensures)
 
-max-pns-per-page-requires : tie.Need-max-pns-per-page-requires
-max-pns-per-page-requires c κs = search needs
-
 mends-requires : tie.Need-mends-requires
 mends-requires c κs =
     let s = c .before .before .before .before .before .before in
@@ -40,20 +37,11 @@ sub-low-2 c = let h = start (c .before .before) .pre .fillable .doable in omega 
 write-pushes-requires : tie.Need-write-pushes-requires
 write-pushes-requires c κs = let tested = c .before .before .before .before in pushable (start tested .pre .fillable .doable) (mended-is tested)
 
-one-less-requires : tie.Need-one-less-requires
-one-less-requires c κs = search needs
-
 copy-numbers-requires : tie.Need-copy-numbers-requires
 copy-numbers-requires c κs =
     let pushed = c .before .before .before .before in
     let s = start (pushed .before .before .before .before .before) in
     (s .pre .fillable .numbers-fit, omega (arith, pages-room (s .pre .fillable .doable), c .before .one-less .ensures))
-
-same-length : tie.Need-same-length
-same-length c = search needs
-
-same-length-2 : tie.Need-same-length-2
-same-length-2 c = search needs
 
 returns : tie.Need-returns
 returns c =
@@ -66,4 +54,4 @@ returns c =
     λ i. record { pages = pages i; entries = entries i }
 
 pub write-tables-spec : {M : Type 1} → statement M
-write-tables-spec = tie.close (tie.spec max-pns-per-page-requires mends-requires sub-low sub-low-2 write-pushes-requires one-less-requires copy-numbers-requires same-length same-length-2 returns)
+write-tables-spec = tie.close (tie.spec (search needs) mends-requires sub-low sub-low-2 write-pushes-requires (search needs) copy-numbers-requires (search needs) (search needs) returns)

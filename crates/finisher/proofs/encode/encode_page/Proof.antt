@@ -21,9 +21,6 @@ max-pns-per-page-requires c κs = c .before .before .before .pre .0 .size
 entries-below-requires : tie.Need-entries-below-requires
 entries-below-requires c κs = let b = bounds (c .before .before .before .before .pre .0) (c .max-pns-per-page .ensures) in (b .0, b .1, b .2, b .3, omega arith)
 
-add-entries-below : tie.Need-add-entries-below
-add-entries-below c = search needs
-
 entries-below-requires-2 : tie.Need-entries-below-requires-2
 entries-below-requires-2 c κs = let b = bounds (c .before .before .before .before .before .pre .0) (c .before .max-pns-per-page .ensures) in (b .0, b .1, b .2, b .3, omega arith)
 
@@ -39,9 +36,6 @@ encode-free-list-page-requires c κs =
     let p = found (c .before .before) in
     (s .0 .size, s .2, omega (arith, p), omega (arith, p, s .0 .entries-fit))
 
-same-length : tie.Need-same-length
-same-length c = search needs
-
 returns : tie.Need-returns
 returns c =
     let below = c .before .before .before .before .before in
@@ -49,4 +43,4 @@ returns c =
     page-encoded (s .pre .0) _ (s .pre .1) _ _ _ _ _ (below .before .before .max-pns-per-page .ensures) (below .before .entries-below .ensures) (below .entries-below2 .ensures) (c .before .before .before .before .previous-page .ensures) (c .before .before .encode-free-list-page .ensures)
 
 pub encode-page-spec : {M : Type 1} → statement M
-encode-page-spec = tie.close (tie.spec max-pns-per-page-requires entries-below-requires add-entries-below entries-below-requires-2 previous-page-requires sub-encode-free-list-page encode-free-list-page-requires same-length returns)
+encode-page-spec = tie.close (tie.spec max-pns-per-page-requires entries-below-requires (search needs) entries-below-requires-2 previous-page-requires sub-encode-free-list-page encode-free-list-page-requires (search needs) returns)

@@ -12,20 +12,11 @@ use Rattle.finisher.proofs.encode.entries_below.Tie as tie
 returns : tie.Need-returns
 returns c = below-all _ _ _ _ (c .if1 .taken)
 
-add-if2 : tie.Need-add-if2
-add-if2 c = search needs
-
 mul-result : tie.Need-mul-result
 mul-result c = let low : c .before .before .args .j ≤ c .before .before .args .pages - 1 = omega arith in omega (arith, mul-le-mul-left (c .before .before .args .c) low, c .before .before .pre .3)
 
 returns-2 : tie.Need-returns-2
 returns-2 c = below-inner _ _ _ _ (c .if2 .taken)
-
-is-fragmented-requires : tie.Need-is-fragmented-requires
-is-fragmented-requires c κs = search needs
-
-sub-result : tie.Need-sub-result
-sub-result c = search needs
 
 returns-3 : tie.Need-returns-3
 returns-3 c = below-fragmented _ _ _ _ (omega arith) (sym (c .before .is-fragmented .ensures) ∙ c .if3 .taken)
@@ -41,11 +32,11 @@ entries-below-spec =
     tie.close
     (tie.spec
     returns
-    add-if2
+    (search needs)
     mul-result
     returns-2
-    is-fragmented-requires
-    sub-result
+    (search needs)
+    (search needs)
     returns-3
     mul-result-2
     returns-4)

@@ -32,17 +32,8 @@ goes : (c : tie.After-work) → let s = start (measured c) in
     Goes (measured c .bytes .result) (save s) (s .args .freed .now) (c .work .given .0 .0) (s .args .buffer .now) (s .args .numbers .now)
 goes c = judged-goes _ _ _ _ _ (sized (measured c)) (ap judgedOutcome (sym (c .work .given .1)) ∙ c .before .before .judge .ensures)
 
-bytes-requires : tie.Need-bytes-requires
-bytes-requires c κs = search needs
-
 judge-requires : tie.Need-judge-requires
 judge-requires c κs = sized (c .before .before)
-
-enum-known-refusal : tie.Need-enum-known-refusal
-enum-known-refusal c = search needs
-
-enum-known-work : tie.Need-enum-known-work
-enum-known-work c = search needs
 
 carry-out-requires : tie.Need-carry-out-requires
 carry-out-requires c κs = goes (c .before .before .before .before .before)
@@ -53,29 +44,11 @@ store-after-requires c κs =
     let g = goes (carried .before .before .before .before .before .before) in
     (goes-limit g, omega (arith, goes-pages g, carried .carry-out .kept))
 
-same-length : tie.Need-same-length
-same-length c = search needs
-
-same-length-2 : tie.Need-same-length-2
-same-length-2 c = search needs
-
 returns : tie.Need-returns
 unfolding finishInto
 returns c =
     let at = c .before .before .before in
     rw (← at .before .before .before .bytes .ensures, judged-refused _ _ _ _ _ (ap judgedOutcome (sym (c .before .refusal .given .1)) ∙ at .judge .ensures))
-
-same-length-3 : tie.Need-same-length-3
-same-length-3 c = search needs
-
-same-length-4 : tie.Need-same-length-4
-same-length-4 c = search needs
-
-same-length-5 : tie.Need-same-length-5
-same-length-5 c = search needs
-
-same-length-6 : tie.Need-same-length-6
-same-length-6 c = search needs
 
 returns-2 : tie.Need-returns-2
 unfolding finishInto
@@ -88,4 +61,4 @@ returns-2 c =
     rw (← measured known .bytes .ensures, g .answers) (λ i. effect (answer (told i)) (carried .carry-out .ensures i))
 
 pub finish-spec : {M : Type 1} → statement M
-finish-spec = tie.close (tie.spec bytes-requires judge-requires enum-known-refusal enum-known-work carry-out-requires store-after-requires same-length same-length-2 returns same-length-3 same-length-4 same-length-5 same-length-6 returns-2)
+finish-spec = tie.close (tie.spec (search needs) judge-requires (search needs) (search needs) carry-out-requires store-after-requires (search needs) (search needs) returns (search needs) (search needs) (search needs) (search needs) returns-2)

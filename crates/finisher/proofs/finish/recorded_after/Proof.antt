@@ -5,9 +5,6 @@ use borrow.Author.Needs.{needs}
 use Rattle.finisher.proofs.finish.recorded_after.Statement.{statement}
 use Rattle.finisher.proofs.finish.recorded_after.Tie as tie
 
-grown-for-requires : tie.Need-grown-for-requires
-grown-for-requires c κs = search needs
-
 returns : tie.Need-returns
 returns c = rw (lt-ltb _ _ (c .before .if1 .taken)) (c .grown-for .ensures)
 
@@ -15,4 +12,4 @@ returns-2 : tie.Need-returns-2
 returns-2 c = rw (le-ltb _ _ (c .if1 .left))
 
 pub recorded-after-spec : {M : Type 1} → statement M
-recorded-after-spec = tie.close (tie.spec grown-for-requires returns returns-2)
+recorded-after-spec = tie.close (tie.spec (search needs) returns returns-2)

@@ -92,24 +92,12 @@ pages-are c e =
     ap (λ (w : Work). leb (s .args .page-size * w .written) (s .args .bytes) && leb (w .written) (s .args .places)) (sym (at .measure .ensures))
     ∙ sym (c .pages-fit .ensures) ∙ e
 
-state-fits-requires : tie.Need-state-fits-requires
-state-fits-requires c κs = search needs
-
 returns : tie.Need-returns
 unfolding finish
 returns c = rw (state-is (c .before) (not-true _ (c .if1 .taken)))
 
-least-requires : tie.Need-least-requires
-least-requires c κs = search needs
-
-sub-past : tie.Need-sub-past
-sub-past c = search needs
-
 sub-room : tie.Need-sub-room
 sub-room c = stands _ _ (stood (c .before .before)) .most
-
-cast-room : tie.Need-cast-room
-cast-room c = search needs
 
 returns-2 : tie.Need-returns-2
 unfolding finish
@@ -119,17 +107,8 @@ returns-2 c =
     let past : maxBump < result (start (at .before)) .bump = omega (arith, bump-raised (start (at .before) .args .freed .now) (start (at .before) .pre) st, c .before .before .least .ensures, c .if2 .taken, st .most) in
     rw (stood at, lt-leb _ _ past)
 
-cast-bump : tie.Need-cast-bump
-cast-bump c = search needs
-
-add-bump : tie.Need-add-bump
-add-bump c = search needs
-
 measure-requires : tie.Need-measure-requires
 measure-requires c κs = begun c
-
-cast-if3 : tie.Need-cast-if3
-cast-if3 c = search needs
 
 returns-3 : tie.Need-returns-3
 unfolding finish
@@ -138,17 +117,11 @@ returns-3 c =
     let past : maxBump < result (measured at) .bump = omega (arith, bump-is at, c .if3 .taken) in
     rw (stood (tested at), lt-leb _ _ past)
 
-first-bad-requires : tie.Need-first-bad-requires
-first-bad-requires c κs = search needs
-
 returns-4 : tie.Need-returns-4
 unfolding finish
 returns-4 c =
     let at = c .before .before .before .before in
     rw (stood (tested at), limit-is at (c .before .before .if3 .left), bad-is (c .before), ne-eqb _ _ (c .if4 .taken))
-
-tables-fit-requires : tie.Need-tables-fit-requires
-tables-fit-requires c κs = search needs
 
 returns-5 : tie.Need-returns-5
 unfolding finish
@@ -178,4 +151,4 @@ returns-7 c =
     (ap answer (at .measure .ensures))
 
 pub judge-spec : {M : Type 1} → statement M
-judge-spec = tie.close (tie.spec state-fits-requires returns least-requires sub-past sub-room cast-room returns-2 cast-bump add-bump measure-requires cast-if3 returns-3 first-bad-requires returns-4 tables-fit-requires returns-5 pages-fit-requires returns-6 returns-7)
+judge-spec = tie.close (tie.spec (search needs) returns (search needs) (search needs) sub-room (search needs) returns-2 (search needs) (search needs) measure-requires (search needs) returns-3 (search needs) returns-4 (search needs) returns-5 pages-fit-requires returns-6 returns-7)

@@ -16,16 +16,10 @@ use Rattle.finisher.proofs.judge.measure.Tie as tie
 changed : (c : tie.Joined1) → eqb (c .before .before .before .before .args .popped) 0 && eqb (length (c .before .before .before .before .args .freed .now)) 0 ≡ false
 changed c = ⊎-elim (λ w. rw (eq-eqb _ _ (w .0 .taken)) (w .1 .left)) (λ w. rw (ne-eqb _ _ (w .left))) (c .if1 .came)
 
-nothing-to-do-requires : tie.Need-nothing-to-do-requires
-nothing-to-do-requires c κs = search needs
-
 returns : tie.Need-returns
 returns c =
     let s = c .before .before .before .before .before .before in
     c .nothing-to-do .ensures ∙ same-work (s .pre) (s .args .freed .now) (rw (eq-eqb _ _ (c .before .before .if1 .taken)) (c .before .if2 .taken))
-
-slice-aggregate-plan : tie.Need-slice-aggregate-plan
-slice-aggregate-plan c = search needs
 
 plan-requires : tie.Need-plan-requires
 plan-requires c κs = begun-planable (c .before .before .before .before .before .pre)
@@ -42,12 +36,6 @@ add-t16 c =
     let s = tested .before .before .before .before in
     omega (arith, listed-small (s .pre) (s .args .freed .now) (changed tested) (c .before .before .before .plan .ensures .counted), s)
 
-one-less-requires : tie.Need-one-less-requires
-one-less-requires c κs = search needs
-
-sub-t18 : tie.Need-sub-t18
-sub-t18 c = search needs
-
 returns-2 : tie.Need-returns-2
 returns-2 c =
     let tested = c .before .before .before .before .before .before in
@@ -55,4 +43,4 @@ returns-2 c =
     rw (c .one-less .ensures) (changed-work (s .pre) (s .args .freed .now) (changed tested) (c .before .before .before .before .plan .ensures .counted))
 
 pub measure-spec : {M : Type 1} → statement M
-measure-spec = tie.close (tie.spec nothing-to-do-requires returns slice-aggregate-plan plan-requires add-count add-t16 one-less-requires sub-t18 returns-2)
+measure-spec = tie.close (tie.spec (search needs) returns (search needs) plan-requires add-count add-t16 (search needs) (search needs) returns-2)

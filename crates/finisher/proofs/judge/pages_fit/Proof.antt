@@ -8,9 +8,6 @@ use borrow.Author.Needs.{needs}
 use Rattle.finisher.proofs.judge.pages_fit.Statement.{statement}
 use Rattle.finisher.proofs.judge.pages_fit.Tie as tie
 
-div-if1 : tie.Need-div-if1
-div-if1 c = search needs
-
 returns : tie.Need-returns
 returns c =
     let a = c .before .args in
@@ -24,4 +21,4 @@ returns-2 c =
     rw (lt-leb _ _ past, lt-leb _ _ (c .if1 .left))
 
 pub pages-fit-spec : {M : Type 1} → statement M
-pages-fit-spec = tie.close (tie.spec div-if1 returns returns-2)
+pages-fit-spec = tie.close (tie.spec (search needs) returns returns-2)

@@ -9,27 +9,12 @@ use borrow.Author.Needs.{needs}
 use Rattle.finisher.proofs.tables.write_pushes.Statement.{statement}
 use Rattle.finisher.proofs.tables.write_pushes.Tie as tie
 
-copy-numbers-requires : tie.Need-copy-numbers-requires
-copy-numbers-requires c κs = search needs
-
-add-first : tie.Need-add-first
-add-first c = search needs
-
-push-pages-requires : tie.Need-push-pages-requires
-push-pages-requires c κs = search needs
-
-add-swap : tie.Need-add-swap
-add-swap c = search needs
-
 swap-requires : tie.Need-swap-requires
 swap-requires c κs =
     let pushed = c .before .before .before .before in
     let copied = pushed .before .before .before .before in
     let s = copied .before .before .before .before .before in
     omega (arith, s .pre .two (c .before .if1 .taken), s .pre .entries-fit, pushed .push-pages .kept, copied .copy-numbers .kept)
-
-same-length : tie.Need-same-length
-same-length c = search needs
 
 returns : tie.Need-returns
 returns c =
@@ -43,13 +28,10 @@ returns c =
     rw (tested .if1 .taken)
     (pushes-mended _ _ _ _ _ _ _ (copied .copy-numbers .ensures) (pushed .push-pages .ensures) _ (omega arith) (omega (arith, s .pre .entries-fit)) (c .before .before .swap .ensures))
 
-same-length-2 : tie.Need-same-length-2
-same-length-2 c = search needs
-
 returns-2 : tie.Need-returns-2
 returns-2 c =
     let pushed = c .before .before .before in
     rw (c .if1 .left) (pushes-ordinary _ _ _ _ _ _ _ (pushed .before .before .before .before .copy-numbers .ensures) (pushed .push-pages .ensures))
 
 pub write-pushes-spec : {M : Type 1} → statement M
-write-pushes-spec = tie.close (tie.spec copy-numbers-requires add-first push-pages-requires add-swap swap-requires same-length returns same-length-2 returns-2)
+write-pushes-spec = tie.close (tie.spec (search needs) (search needs) (search needs) (search needs) swap-requires (search needs) returns (search needs) returns-2)

@@ -27,18 +27,6 @@ write-numbers-requires c κs =
     let p = at-count .before .before .before .before .before .before .before .before .pre in
     (p .3, omega (arith, page-room _ (p .0) (p .2), p .1))
 
-mul-clear : tie.Need-mul-clear
-mul-clear c = search needs
-
-add-clear : tie.Need-add-clear
-add-clear c = search needs
-
-clear-requires : tie.Need-clear-requires
-clear-requires c κs = search needs
-
-same-length : tie.Need-same-length
-same-length c = search needs
-
 returns : tie.Need-returns
 returns c =
     let at-clear = c .before .before in
@@ -60,8 +48,8 @@ encode-free-list-page-spec =
     cast-write-u16
     write-u16-requires
     write-numbers-requires
-    mul-clear
-    add-clear
-    clear-requires
-    same-length
+    (search needs)
+    (search needs)
+    (search needs)
+    (search needs)
     returns)

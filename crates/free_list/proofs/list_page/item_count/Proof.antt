@@ -5,12 +5,9 @@ use borrow.Author.Needs.{needs}
 use Rattle.free_list.proofs.list_page.item_count.Statement.{statement}
 use Rattle.free_list.proofs.list_page.item_count.Tie as tie
 
-read-u16-requires : tie.Need-read-u16-requires
-read-u16-requires c κs = search needs
-
 returns : tie.Need-returns
 unfolding countOf
 returns c = c .read-u16 .ensures
 
 pub item-count-spec : {M : Type 1} → statement M
-item-count-spec = tie.close (tie.spec read-u16-requires returns)
+item-count-spec = tie.close (tie.spec (search needs) returns)

@@ -5,12 +5,9 @@ use borrow.Author.Needs.{needs}
 use Rattle.free_list.proofs.list_page.prev_pn.Statement.{statement}
 use Rattle.free_list.proofs.list_page.prev_pn.Tie as tie
 
-read-u32-requires : tie.Need-read-u32-requires
-read-u32-requires c κs = search needs
-
 returns : tie.Need-returns
 unfolding prevOf
 returns c = c .read-u32 .ensures
 
 pub prev-pn-spec : {M : Type 1} → statement M
-prev-pn-spec = tie.close (tie.spec read-u32-requires returns)
+prev-pn-spec = tie.close (tie.spec (search needs) returns)

@@ -9,11 +9,8 @@ use Rattle.free_list.proofs.page_ref.count_within.Tie as tie
 returns : tie.Need-returns
 returns c = sym (count-past _ (c .if1 .taken))
 
-item-count-requires : tie.Need-item-count-requires
-item-count-requires c κs = search needs
-
 returns-2 : tie.Need-returns-2
 returns-2 c = c .item-count .ensures ∙ sym (count-within _ (c .before .if1 .left))
 
 pub count-within-spec : {M : Type 1} → statement M
-count-within-spec = tie.close (tie.spec returns item-count-requires returns-2)
+count-within-spec = tie.close (tie.spec returns (search needs) returns-2)

@@ -10,17 +10,11 @@ use Rattle.free_list.proofs.page_ref.item_within.Tie as tie
 returns : tie.Need-returns
 returns c = sym (entry-past (c .before .before .args .page .now) (c .before .before .args .i) (omega arith))
 
-sub-if2 : tie.Need-sub-if2
-sub-if2 c = search needs
-
 returns-2 : tie.Need-returns-2
 returns-2 c = sym (entry-past (c .before .before .before .args .page .now) (c .before .before .before .args .i) (omega arith))
-
-item-requires : tie.Need-item-requires
-item-requires c κs = search needs
 
 returns-3 : tie.Need-returns-3
 returns-3 c = c .item .ensures ∙ sym (entry-within (c .before .before .before .before .args .page .now) (c .before .before .before .before .args .i) (omega arith))
 
 pub item-within-spec : {M : Type 1} → statement M
-item-within-spec = tie.close (tie.spec returns sub-if2 returns-2 item-requires returns-3)
+item-within-spec = tie.close (tie.spec returns (search needs) returns-2 (search needs) returns-3)

@@ -9,11 +9,8 @@ use Rattle.free_list.proofs.page_ref.prev_within.Tie as tie
 returns : tie.Need-returns
 returns c = sym (prev-past _ (c .if1 .taken))
 
-prev-pn-requires : tie.Need-prev-pn-requires
-prev-pn-requires c κs = search needs
-
 returns-2 : tie.Need-returns-2
 returns-2 c = c .prev-pn .ensures ∙ sym (prev-within _ (c .before .if1 .left))
 
 pub prev-within-spec : {M : Type 1} → statement M
-prev-within-spec = tie.close (tie.spec returns prev-pn-requires returns-2)
+prev-within-spec = tie.close (tie.spec returns (search needs) returns-2)

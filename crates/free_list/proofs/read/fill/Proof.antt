@@ -62,12 +62,6 @@ page-at-requires c κs =
     let f = c .before .loop .inv in
     (f .size, filled _ _ _ _ _ _ _ _ _ _ _ (c .loop-test .taken) f .inside)
 
-header-requires : tie.Need-header-requires Inv-loop μ-loop
-header-requires c κs = search needs
-
-cast-n : tie.Need-cast-n Inv-loop μ-loop
-cast-n c = search needs
-
 sub-at : tie.Need-sub-at Inv-loop μ-loop
 sub-at c =
     let at-page = c .before .before in
@@ -117,8 +111,8 @@ fill-spec =
     μ-loop
     loop-holds
     page-at-requires
-    header-requires
-    cast-n
+    (search needs)
+    (search needs)
     sub-at
     read-numbers-requires
     sub-left

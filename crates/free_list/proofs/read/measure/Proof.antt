@@ -43,9 +43,6 @@ abbrev μ-loop : tie.MeasureT-loop
 page-count-requires : tie.Need-page-count-requires Inv-loop μ-loop
 page-count-requires c κs = c .before .pre
 
-cast-t12 : tie.Need-cast-t12 Inv-loop μ-loop
-cast-t12 c = search needs
-
 loop-holds : tie.Need-loop-holds Inv-loop μ-loop
 loop-holds c =
     let a = c .before .before .args in
@@ -60,24 +57,15 @@ walk-down-requires : tie.Need-walk-down-requires Inv-loop μ-loop
 walk-down-requires c κs =
     record { size = c .before .before .before .pre; counted = c .before .page-count .ensures; fits = c .loop .inv .fits; marked = c .loop .inv .marked }
 
-enum-known-list : tie.Need-enum-known-list Inv-loop μ-loop
-enum-known-list c = search needs
-
 returns : tie.Need-returns Inv-loop μ-loop
 returns c =
     let at-walk = c .before .before .before in
     ap (walkedSize _ _ _) (sym (c .before .list .given .1)) ∙ at-walk .walk-down .ensures .size ∙ at-walk .before .loop .inv .same
 
-enum-known-r : tie.Need-enum-known-r Inv-loop μ-loop
-enum-known-r c = search needs
-
 returns-2 : tie.Need-returns-2 Inv-loop μ-loop
 returns-2 c =
     let at-walk = c .before .before .before in
     ap (walkedSize _ _ _) (sym (c .before .r .given .1)) ∙ at-walk .walk-down .ensures .size ∙ at-walk .before .loop .inv .same
-
-enum-known-next : tie.Need-enum-known-next Inv-loop μ-loop
-enum-known-next c = search needs
 
 mul-due : tie.Need-mul-due Inv-loop μ-loop
 mul-due c =
@@ -118,14 +106,14 @@ measure-spec =
     Inv-loop
     μ-loop
     page-count-requires
-    cast-t12
+    (search needs)
     loop-holds
     walk-down-requires
-    enum-known-list
+    (search needs)
     returns
-    enum-known-r
+    (search needs)
     returns-2
-    enum-known-next
+    (search needs)
     mul-due
     loop-less
     loop-again

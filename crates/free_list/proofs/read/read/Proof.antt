@@ -18,17 +18,8 @@ use Rattle.free_list.proofs.read.read.Tie as tie
 measured : (store : List ℕ) (loose : Bool) (head : ℕ) {s z : ℕ} {r q : ReadList} → s ≡ z → readOutcome r ≡ readSize s store loose head → r ≡ q → readOutcome q ≡ readSize z store loose head
 measured store loose head e m t = ap readOutcome (sym t) ∙ m ∙ rw e
 
-bytes-requires : tie.Need-bytes-requires
-bytes-requires c κs = search needs
-
 measure-requires : tie.Need-measure-requires
 measure-requires c κs = rw (c .bytes .ensures) (page-bytes _)
-
-enum-known-r : tie.Need-enum-known-r
-enum-known-r c = search needs
-
-enum-known-list : tie.Need-enum-known-list
-enum-known-list c = search needs
 
 returns : tie.Need-returns
 returns c =
@@ -56,12 +47,6 @@ returns-3 c =
     let at-measure = c .before .before .before in
     into-refused _ _ _ _ _ (measured _ _ _ (at-measure .before .bytes .ensures) (at-measure .measure .ensures) (c .before .r .given .1))
 
-same-length : tie.Need-same-length
-same-length c = search needs
-
-same-length-2 : tie.Need-same-length-2
-same-length-2 c = search needs
-
 returns-4 : tie.Need-returns-4
 returns-4 c =
     let at-fill = c .before .before .before .before in
@@ -76,14 +61,14 @@ pub read-spec : {M : Type 1} → statement M
 read-spec =
     tie.close
     (tie.spec
-    bytes-requires
+    (search needs)
     measure-requires
-    enum-known-r
-    enum-known-list
+    (search needs)
+    (search needs)
     returns
     returns-2
     fill-requires
     returns-3
-    same-length
-    same-length-2
+    (search needs)
+    (search needs)
     returns-4)

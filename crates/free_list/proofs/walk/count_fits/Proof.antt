@@ -18,9 +18,6 @@ returns-3 : tie.Need-returns-3
 unfolding countFits
 returns-3 c = simp (c .before .before .if1 .left, eq-eqb _ _ (c .before .if2 .taken), lt-leb _ _ (c .if3 .left))
 
-add-result : tie.Need-add-result
-add-result c = search needs
-
 returns-4 : tie.Need-returns-4
 unfolding countFits
 returns-4 c = simp (c .before .before .if1 .left, ne-eqb _ _ (c .before .if2 .left), eq-eqb _ _ (c .if4 .taken))
@@ -46,4 +43,4 @@ returns-7 c =
 pub count-fits-spec : {M : Type 1} → statement M
 count-fits-spec =
     tie.close
-    (tie.spec returns returns-2 returns-3 add-result returns-4 returns-5 returns-6 returns-7)
+    (tie.spec returns returns-2 returns-3 (search needs) returns-4 returns-5 returns-6 returns-7)

@@ -24,9 +24,6 @@ loop-holds c = (omega arith, omega arith, refl)
 item-requires : tie.Need-item-requires Inv-loop μ-loop
 item-requires c κs = omega arith
 
-unfit-requires : tie.Need-unfit-requires Inv-loop μ-loop
-unfit-requires c κs = search needs
-
 add-bad : tie.Need-add-bad Inv-loop μ-loop
 add-bad c = omega arith
 
@@ -52,7 +49,7 @@ entries-fit-spec =
     μ-loop
     loop-holds
     item-requires
-    unfit-requires
+    (search needs)
     add-bad
     add-i
     loop-less

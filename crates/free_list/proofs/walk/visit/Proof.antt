@@ -93,12 +93,6 @@ returns c =
 page-at-requires : tie.Need-page-at-requires
 page-at-requires c κs = let may = c .before .before .pre in (may .size, omega (arith, may .counted, c .if1 .left))
 
-header-requires : tie.Need-header-requires
-header-requires c κs = search needs
-
-cast-n : tie.Need-cast-n
-cast-n c = search needs
-
 max-pns-per-page-requires : tie.Need-max-pns-per-page-requires
 max-pns-per-page-requires c κs = c .before .before .before .before .before .pre .size
 
@@ -156,8 +150,8 @@ visit-spec =
     (tie.spec
     returns
     page-at-requires
-    header-requires
-    cast-n
+    (search needs)
+    (search needs)
     max-pns-per-page-requires
     count-fits-requires
     returns-2

@@ -6,17 +6,11 @@ use borrow.Author.Needs.{needs}
 use Rattle.lookup.proofs.find.find.Statement.{statement}
 use Rattle.lookup.proofs.find.find.Tie as tie
 
-bytes-requires : tie.Need-bytes-requires
-bytes-requires c κs = search needs
-
 div-if1 : tie.Need-div-if1
 div-if1 c = let h = page-some _ (c .bytes .ensures) in omega arith
 
 returns : tie.Need-returns
 returns c = find-short _ (c .before .bytes .ensures) _ _ _ _ (c .if1 .taken)
-
-position-requires : tie.Need-position-requires
-position-requires c κs = search needs
 
 mul-t14 : tie.Need-mul-t14
 mul-t14 c =
@@ -33,17 +27,11 @@ returns-2 c =
 page-count-requires : tie.Need-page-count-requires
 page-count-requires c κs = is-size _ (c .before .before .before .bytes .ensures)
 
-cast-t16 : tie.Need-cast-t16
-cast-t16 c = search needs
-
 returns-3 : tie.Need-returns-3
 returns-3 c =
     let at-place = c .before .before .before in
     let at-room = at-place .before in
     find-missing _ (at-room .before .bytes .ensures) _ _ _ _ (at-room .if1 .left) (at-place .position .ensures) (c .before .before .if2 .left) (c .before .page-count .ensures) (c .if3 .taken)
-
-cast-t10 : tie.Need-cast-t10
-cast-t10 c = search needs
 
 mul-t11 : tie.Need-mul-t11
 mul-t11 c =
@@ -63,15 +51,15 @@ pub find-spec : {M : Type 1} → statement M
 find-spec =
     tie.close
     (tie.spec
-    bytes-requires
+    (search needs)
     div-if1
     returns
-    position-requires
+    (search needs)
     mul-t14
     returns-2
     page-count-requires
-    cast-t16
+    (search needs)
     returns-3
-    cast-t10
+    (search needs)
     mul-t11
     returns-4)

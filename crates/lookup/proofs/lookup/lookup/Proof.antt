@@ -8,55 +8,25 @@ use borrow.Author.Needs.{needs}
 use Rattle.lookup.proofs.lookup.lookup.Statement.{statement}
 use Rattle.lookup.proofs.lookup.lookup.Tie as tie
 
-bytes-requires : tie.Need-bytes-requires
-bytes-requires c κs = search needs
-
-find-requires : tie.Need-find-requires
-find-requires c κs = search needs
-
-enum-known-at : tie.Need-enum-known-at
-enum-known-at c = search needs
-
 add-end : tie.Need-add-end
 add-end c =
     let at-find = c .before .before .before in
     omega (arith, found-within _ (at-find .before .bytes .ensures) _ _ _ _ (ap findOutcome (sym (c .before .at .given .1)) ∙ at-find .find .ensures))
-
-sub-result : tie.Need-sub-result
-sub-result c = search needs
-
-part-result-start : tie.Need-part-result-start
-part-result-start c = search needs
 
 part-result-end : tie.Need-part-result-end
 part-result-end c =
     let at-find = c .before .before .before in
     omega (arith, found-within _ (at-find .before .bytes .ensures) _ _ _ _ (ap findOutcome (sym (c .before .at .given .1)) ∙ at-find .find .ensures))
 
-enum-known-at-2 : tie.Need-enum-known-at-2
-enum-known-at-2 c = search needs
-
 add-end-2 : tie.Need-add-end-2
 add-end-2 c =
     let at-find = c .before .before .before in
     omega (arith, found-within _ (at-find .before .bytes .ensures) _ _ _ _ (ap findOutcome (sym (c .before .at2 .given .1)) ∙ at-find .find .ensures))
 
-sub-result-2 : tie.Need-sub-result-2
-sub-result-2 c = search needs
-
-part-result-start-2 : tie.Need-part-result-start-2
-part-result-start-2 c = search needs
-
 part-result-end-2 : tie.Need-part-result-end-2
 part-result-end-2 c =
     let at-find = c .before .before .before in
     omega (arith, found-within _ (at-find .before .bytes .ensures) _ _ _ _ (ap findOutcome (sym (c .before .at2 .given .1)) ∙ at-find .find .ensures))
-
-enum-told : tie.Need-enum-told
-enum-told c = search needs
-
-slice-aggregate-result : tie.Need-slice-aggregate-result
-slice-aggregate-result c = search needs
 
 returns : tie.Need-returns
 returns c =
@@ -77,20 +47,20 @@ pub lookup-spec : {M : Type 1} → statement M
 lookup-spec =
     tie.close
     (tie.spec
-    bytes-requires
-    find-requires
-    enum-known-at
+    (search needs)
+    (search needs)
+    (search needs)
     add-end
-    sub-result
-    part-result-start
+    (search needs)
+    (search needs)
     part-result-end
-    enum-known-at-2
+    (search needs)
     add-end-2
-    sub-result-2
-    part-result-start-2
+    (search needs)
+    (search needs)
     part-result-end-2
-    enum-told
-    slice-aggregate-result
+    (search needs)
+    (search needs)
     returns
     returns-2
     returns-3)

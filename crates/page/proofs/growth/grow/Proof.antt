@@ -13,15 +13,9 @@ returns : tie.Need-returns
 unfolding grow
 returns c = rw (lt-leb _ _ (c .if1 .taken))
 
-add-t5 : tie.Need-add-t5
-add-t5 c = search needs
-
-mul-t7 : tie.Need-mul-t7
-mul-t7 c = search needs
-
 returns-2 : tie.Need-returns-2
 unfolding grow grown roundedUp
 returns-2 c = rw (le-leb _ _ (c .if1 .left)) (ap answer (omega arith))
 
 pub grow-spec : {M : Type 1} → statement M
-grow-spec = tie.close (tie.spec returns add-t5 mul-t7 returns-2)
+grow-spec = tie.close (tie.spec returns (search needs) (search needs) returns-2)

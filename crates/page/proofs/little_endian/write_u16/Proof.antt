@@ -8,23 +8,8 @@ use borrow.Author.Needs.{needs}
 use Rattle.page.proofs.little_endian.write_u16.Statement.{statement}
 use Rattle.page.proofs.little_endian.write_u16.Tie as tie
 
-cast-b : tie.Need-cast-b
-cast-b c = search needs
-
-slice-write-b : tie.Need-slice-write-b
-slice-write-b c = search needs
-
-cast-b-2 : tie.Need-cast-b-2
-cast-b-2 c = search needs
-
-add-b : tie.Need-add-b
-add-b c = search needs
-
 slice-write-b-2 : tie.Need-slice-write-b-2
 slice-write-b-2 c = simp length-set (omega arith)
-
-same-length : tie.Need-same-length
-same-length c = search needs
 
 returns : tie.Need-returns
 unfolding bytesOf
@@ -32,4 +17,4 @@ returns c = rw add-one
 
 pub write-u16-spec : {M : Type 1} → statement M
 write-u16-spec =
-    tie.close (tie.spec cast-b slice-write-b cast-b-2 add-b slice-write-b-2 same-length returns)
+    tie.close (tie.spec (search needs) (search needs) (search needs) (search needs) slice-write-b-2 (search needs) returns)

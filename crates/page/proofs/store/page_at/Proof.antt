@@ -21,12 +21,6 @@ mul-start c = let h = within c in omega arith
 add-end : tie.Need-add-end
 add-end c = let h = within c in omega arith
 
-sub-result : tie.Need-sub-result
-sub-result c = search needs
-
-part-result-start : tie.Need-part-result-start
-part-result-start c = search needs
-
 part-result-end : tie.Need-part-result-end
 part-result-end c = let h = within c in omega arith
 
@@ -39,4 +33,4 @@ returns c =
 
 pub page-at-spec : {M : Type 1} → statement M
 page-at-spec =
-    tie.close (tie.spec mul-start add-end sub-result part-result-start part-result-end returns)
+    tie.close (tie.spec mul-start add-end (search needs) (search needs) part-result-end returns)

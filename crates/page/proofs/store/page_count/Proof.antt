@@ -10,12 +10,6 @@ use Rattle.page.proofs.store.page_count.Tie as tie
 div-n : tie.Need-div-n
 div-n c = let h = page-least (c .pre) in omega arith
 
-cast-if1 : tie.Need-cast-if1
-cast-if1 c = search needs
-
-cast-result : tie.Need-cast-result
-cast-result c = search needs
-
 returns : tie.Need-returns
 unfolding pageCount
 returns c = omega arith
@@ -25,4 +19,4 @@ unfolding pageCount
 returns-2 c = omega arith
 
 pub page-count-spec : {M : Type 1} → statement M
-page-count-spec = tie.close (tie.spec div-n cast-if1 cast-result returns returns-2)
+page-count-spec = tie.close (tie.spec div-n (search needs) (search needs) returns returns-2)

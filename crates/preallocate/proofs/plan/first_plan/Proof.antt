@@ -57,17 +57,8 @@ left c =
     let s = start (counting (c .before)) in
     after-some _ (list s) (s .pre .two-entries) (s .pre .shape) (s .args .popped) (counting (c .before) .pages-after .ensures) (c .before .before .before .if1 .left) (mended-is (c .before) (c .if2 .left))
 
-pages-after-requires : tie.Need-pages-after-requires
-pages-after-requires c κs = search needs
-
 sub-pushed : tie.Need-sub-pushed
 sub-pushed c = fewer c
-
-add-pushed : tie.Need-add-pushed
-add-pushed c = search needs
-
-counted-requires : tie.Need-counted-requires
-counted-requires c κs = search needs
 
 returns : tie.Need-returns
 returns c =
@@ -75,29 +66,11 @@ returns c =
     record { counted = c .counted .ensures ∙ rw (pushes (c .before .before)); named = λ b. refl }
     )
 
-add-last : tie.Need-add-last
-add-last c = search needs
-
-sub-last : tie.Need-sub-last
-sub-last c = search needs
-
-mul-number : tie.Need-mul-number
-mul-number c = search needs
-
-shared-slice-read-number : tie.Need-shared-slice-read-number
-shared-slice-read-number c = search needs
-
 mends-requires : tie.Need-mends-requires
 mends-requires c κs = omega (arith, shaped _ _ _ (start (c .before .before) .pre .shape) .under)
 
 sub-counted : tie.Need-sub-counted
 sub-counted c = let a = start (counting (c .before)) .args in omega (arith, mended-pages (a .c) (length (a .pages .now)) (length (a .entries .now)) (a .popped) (mended-is (c .before) (c .if2 .taken)))
-
-add-counted : tie.Need-add-counted
-add-counted c = search needs
-
-counted-requires-2 : tie.Need-counted-requires-2
-counted-requires-2 c κs = search needs
 
 returns-2 : tie.Need-returns-2
 returns-2 c =
@@ -115,9 +88,6 @@ mul-if3 c =
     let at = counting (c .before) in
     omega (arith, start at, left c .1, times-less (start at .args .c) (at .pages-after .result) (left c .0))
 
-put-requires : tie.Need-put-requires
-put-requires c κs = search needs
-
 under-requires : tie.Need-under-requires
 under-requires c κs =
     let tested = c .before .before .before .before .before in
@@ -125,15 +95,6 @@ under-requires c κs =
 
 sub-counted-2 : tie.Need-sub-counted-2
 sub-counted-2 c = left (c .before .before .before .before .before .before) .0
-
-add-counted-2 : tie.Need-add-counted-2
-add-counted-2 c = search needs
-
-counted-requires-3 : tie.Need-counted-requires-3
-counted-requires-3 c κs = search needs
-
-same-length : tie.Need-same-length
-same-length c = search needs
 
 returns-3 : tie.Need-returns-3
 returns-3 c =
@@ -146,12 +107,6 @@ returns-3 c =
     }
     )
 
-add-counted-3 : tie.Need-add-counted-3
-add-counted-3 c = search needs
-
-counted-requires-4 : tie.Need-counted-requires-4
-counted-requires-4 c κs = search needs
-
 returns-4 : tie.Need-returns-4
 returns-4 c =
     let tested = c .before .before in
@@ -161,4 +116,4 @@ returns-4 c =
     )
 
 pub first-plan-spec : {M : Type 1} → statement M
-first-plan-spec = tie.close (tie.spec pages-after-requires sub-pushed add-pushed counted-requires returns add-last sub-last mul-number shared-slice-read-number mends-requires sub-counted add-counted counted-requires-2 returns-2 sub-if3 mul-if3 put-requires under-requires sub-counted-2 add-counted-2 counted-requires-3 same-length returns-3 add-counted-3 counted-requires-4 returns-4)
+first-plan-spec = tie.close (tie.spec (search needs) sub-pushed (search needs) (search needs) returns (search needs) (search needs) (search needs) (search needs) mends-requires sub-counted (search needs) (search needs) returns-2 sub-if3 mul-if3 (search needs) under-requires sub-counted-2 (search needs) (search needs) (search needs) returns-3 (search needs) (search needs) returns-4)

@@ -6,12 +6,6 @@ use borrow.Author.Needs.{needs}
 use Rattle.preallocate.proofs.plan.is_fragmented.Statement.{statement}
 use Rattle.preallocate.proofs.plan.is_fragmented.Tie as tie
 
-sub-result : tie.Need-sub-result
-sub-result c = search needs
-
-mul-result : tie.Need-mul-result
-mul-result c = search needs
-
 returns : tie.Need-returns
 unfolding isFragmented
 returns c = rw (le-leb _ _ (c .if1 .taken))
@@ -21,4 +15,4 @@ unfolding isFragmented
 returns-2 c = rw (lt-leb _ _ (c .if1 .left))
 
 pub is-fragmented-spec : {M : Type 1} → statement M
-is-fragmented-spec = tie.close (tie.spec sub-result mul-result returns returns-2)
+is-fragmented-spec = tie.close (tie.spec (search needs) (search needs) returns returns-2)

@@ -5,9 +5,6 @@ use borrow.Author.Needs.{needs}
 use Rattle.preallocate.proofs.plan.mends.Statement.{statement}
 use Rattle.preallocate.proofs.plan.mends.Tie as tie
 
-is-fragmented-requires : tie.Need-is-fragmented-requires
-is-fragmented-requires c κs = search needs
-
 returns : tie.Need-returns
 returns c = rw (eq-eqb _ _ (c .before .if1 .taken)) (c .is-fragmented .ensures)
 
@@ -15,4 +12,4 @@ returns-2 : tie.Need-returns-2
 returns-2 c = rw (ne-eqb _ _ (c .if1 .left))
 
 pub mends-spec : {M : Type 1} → statement M
-mends-spec = tie.close (tie.spec is-fragmented-requires returns returns-2)
+mends-spec = tie.close (tie.spec (search needs) returns returns-2)

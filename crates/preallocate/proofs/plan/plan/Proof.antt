@@ -9,9 +9,6 @@ use borrow.Author.Needs.{needs}
 use Rattle.preallocate.proofs.plan.plan.Statement.{statement}
 use Rattle.preallocate.proofs.plan.plan.Tie as tie
 
-max-pns-per-page-requires : tie.Need-max-pns-per-page-requires
-max-pns-per-page-requires c κs = search needs
-
 slice-aggregate-pages : tie.Need-slice-aggregate-pages
 slice-aggregate-pages c = sym (length-take-le _ _ (c .before .before .before .before .before .before .pre .pages-fit))
 
@@ -29,13 +26,10 @@ make-room-requires c κs =
     let n = length-take-le (s .args .l) (s .args .entries .now) (s .pre .entries-fit) in
     first-ready (cut-poppable (s .pre) (sized .max-pns-per-page .ensures)) (s .args .freed .now) (omega (arith, s)) (omega (arith, s)) (omega (arith, s)) (c .before .before .before .first-plan .ensures .counted)
 
-same-length : tie.Need-same-length
-same-length c = search needs
-
 returns : tie.Need-returns
 returns c =
     let planned = c .before .before .before .before .before .before in
     rw (← planned .before .before .before .before .max-pns-per-page .ensures) (then-made _ _ _ _ _ (planned .first-plan .ensures) (c .before .before .make-room .ensures))
 
 pub plan-spec : {M : Type 1} → statement M
-plan-spec = tie.close (tie.spec max-pns-per-page-requires slice-aggregate-pages slice-aggregate-entries first-plan-requires make-room-requires same-length returns)
+plan-spec = tie.close (tie.spec (search needs) slice-aggregate-pages slice-aggregate-entries first-plan-requires make-room-requires (search needs) returns)

@@ -21,26 +21,17 @@ room-requires c κs = let s = c .before .before .before .pre in room-fits (s .0)
 returns : tie.Need-returns
 returns c = done _ _ _ _ (omega (arith, c .if1 .taken, c .before .before .room .ensures))
 
-whole-requires : tie.Need-whole-requires
-whole-requires c κs = search needs
-
 swap-head-requires : tie.Need-swap-head-requires
 swap-head-requires c κs = (due (c .before .before .before), sym (c .before .before .whole .ensures) ∙ c .before .if2 .taken)
 
 take-page-requires : tie.Need-take-page-requires
 take-page-requires c κs = (due (c .before .before .before), sym (c .before .before .whole .ensures) ∙ c .before .if2 .left)
 
-same-length : tie.Need-same-length
-same-length c = search needs
-
 returns-2 : tie.Need-returns-2
 returns-2 c = search needs
-
-same-length-2 : tie.Need-same-length-2
-same-length-2 c = search needs
 
 returns-3 : tie.Need-returns-3
 returns-3 c = search needs
 
 pub make-room-spec : {M : Type 1} → statement M
-make-room-spec = tie.close (tie.spec room-requires returns whole-requires swap-head-requires take-page-requires same-length returns-2 same-length-2 returns-3)
+make-room-spec = tie.close (tie.spec room-requires returns (search needs) swap-head-requires take-page-requires (search needs) returns-2 (search needs) returns-3)

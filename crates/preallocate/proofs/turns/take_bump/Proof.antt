@@ -6,21 +6,6 @@ use borrow.Author.Needs.{needs}
 use Rattle.preallocate.proofs.turns.take_bump.Statement.{statement}
 use Rattle.preallocate.proofs.turns.take_bump.Tie as tie
 
-low-requires : tie.Need-low-requires
-low-requires c κs = search needs
-
-put-requires : tie.Need-put-requires
-put-requires c κs = search needs
-
-add-t7 : tie.Need-add-t7
-add-t7 c = search needs
-
-add-t8 : tie.Need-add-t8
-add-t8 c = search needs
-
-same-length : tie.Need-same-length
-same-length c = search needs
-
 returns : tie.Need-returns
 returns c =
     record {
@@ -29,4 +14,4 @@ returns c =
     }
 
 pub take-bump-spec : {M : Type 1} → statement M
-take-bump-spec = tie.close (tie.spec low-requires put-requires add-t7 add-t8 same-length returns)
+take-bump-spec = tie.close (tie.spec (search needs) (search needs) (search needs) (search needs) (search needs) returns)

@@ -22,18 +22,6 @@ some-pages c = pages-positive (c .pre .0 .packed) (c .pre .1)
 few-fresh : (c : tie.Start) → c .args .p .fresh + 2 < 2 ^ 64
 few-fresh c = let d = c .pre .0 in fresh-small (d .packed) (d .small) (d .short)
 
-sub-last : tie.Need-sub-last
-sub-last c = search needs
-
-mul-put : tie.Need-mul-put
-mul-put c = search needs
-
-shared-slice-read-put : tie.Need-shared-slice-read-put
-shared-slice-read-put c = search needs
-
-put-requires : tie.Need-put-requires
-put-requires c κs = search needs
-
 sub-if1 : tie.Need-sub-if1
 sub-if1 c = some-pages (start (c .before .before .before))
 
@@ -45,16 +33,10 @@ mul-if1 c =
 add-put : tie.Need-add-put
 add-put c = omega (arith, few-fresh (start (c .before .before .before .before .before .before)))
 
-put-requires-2 : tie.Need-put-requires-2
-put-requires-2 c κs = search needs
-
 last-taken-requires : tie.Need-last-taken-requires
 last-taken-requires c κs =
     let s = start (c .before .before .before .before .before .before .before .before .before) in
     (s .pre .1, few-fresh s, some-pages s, s .pre .0 .packed .kept)
-
-same-length : tie.Need-same-length
-same-length c = search needs
 
 returns : tie.Need-returns
 unfolding taken named
@@ -71,9 +53,6 @@ returns c =
 entry-taken-requires : tie.Need-entry-taken-requires
 entry-taken-requires c κs = let s = start (c .before .before .before .before) in (s .pre .1, omega (arith, few-fresh s))
 
-same-length-2 : tie.Need-same-length-2
-same-length-2 c = search needs
-
 returns-2 : tie.Need-returns-2
 unfolding taken named
 returns-2 c =
@@ -81,4 +60,4 @@ returns-2 c =
     rw (le-leb _ _ (start stored .pre .1), ne-eqb _ _ (c .before .if1 .left)) (record { counted = c .entry-taken .ensures; named = λ b. stored .put .ensures })
 
 pub take-entry-spec : {M : Type 1} → statement M
-take-entry-spec = tie.close (tie.spec sub-last mul-put shared-slice-read-put put-requires sub-if1 mul-if1 add-put put-requires-2 last-taken-requires same-length returns entry-taken-requires same-length-2 returns-2)
+take-entry-spec = tie.close (tie.spec (search needs) (search needs) (search needs) (search needs) sub-if1 mul-if1 add-put (search needs) last-taken-requires (search needs) returns entry-taken-requires (search needs) returns-2)

@@ -13,9 +13,6 @@ take-bump-requires c κs =
     let d = c .before .before .before .before .before .before .pre in
     (omega (arith, fresh-small (d .packed) (d .small) (d .short)), omega (arith, d .small, d .short))
 
-same-length : tie.Need-same-length
-same-length c = search needs
-
 returns : tie.Need-returns
 unfolding taken named
 returns c = rw (lt-leb _ _ (c .before .before .before .before .if1 .taken)) (c .before .before .take-bump .ensures)
@@ -23,11 +20,8 @@ returns c = rw (lt-leb _ _ (c .before .before .before .before .if1 .taken)) (c .
 take-entry-requires : tie.Need-take-entry-requires
 take-entry-requires c κs = (c .before .before .before .before .before .before .pre, c .before .if1 .left)
 
-same-length-2 : tie.Need-same-length-2
-same-length-2 c = search needs
-
 returns-2 : tie.Need-returns-2
 returns-2 c = search needs
 
 pub take-one-spec : {M : Type 1} → statement M
-take-one-spec = tie.close (tie.spec take-bump-requires same-length returns take-entry-requires same-length-2 returns-2)
+take-one-spec = tie.close (tie.spec take-bump-requires (search needs) returns take-entry-requires (search needs) returns-2)

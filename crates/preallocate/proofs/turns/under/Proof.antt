@@ -7,15 +7,6 @@ use borrow.Author.Needs.{needs}
 use Rattle.preallocate.proofs.turns.under.Statement.{statement}
 use Rattle.preallocate.proofs.turns.under.Tie as tie
 
-shared-slice-read-result : tie.Need-shared-slice-read-result
-shared-slice-read-result c = search needs
-
-mul-result : tie.Need-mul-result
-mul-result c = search needs
-
-shared-slice-read-result-2 : tie.Need-shared-slice-read-result-2
-shared-slice-read-result-2 c = search needs
-
 returns : tie.Need-returns
 returns c = let e : c .before .before .args .kept - 2 ≡ 0 = omega (arith, c .before .if1 .taken) in rw e
 
@@ -25,4 +16,4 @@ returns-2 c = search needs
 pub under-spec : {M : Type 1} → statement M
 under-spec =
     tie.close
-    (tie.spec shared-slice-read-result mul-result shared-slice-read-result-2 returns returns-2)
+    (tie.spec (search needs) (search needs) (search needs) returns returns-2)

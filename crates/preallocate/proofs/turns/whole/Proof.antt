@@ -5,9 +5,6 @@ use borrow.Author.Needs.{needs}
 use Rattle.preallocate.proofs.turns.whole.Statement.{statement}
 use Rattle.preallocate.proofs.turns.whole.Tie as tie
 
-mul-result : tie.Need-mul-result
-mul-result c = search needs
-
 returns : tie.Need-returns
 returns c = rw (le-leb _ _ (c .before .before .if1 .taken))
 
@@ -15,4 +12,4 @@ returns-2 : tie.Need-returns-2
 returns-2 c = rw (lt-leb _ _ (c .if1 .left))
 
 pub whole-spec : {M : Type 1} → statement M
-whole-spec = tie.close (tie.spec mul-result returns returns-2)
+whole-spec = tie.close (tie.spec (search needs) returns returns-2)

@@ -7,14 +7,8 @@ use borrow.Author.Needs.{needs}
 use Rattle.record_line.proofs.numbers.count_bytes.Statement.{statement}
 use Rattle.record_line.proofs.numbers.count_bytes.Tie as tie
 
-number-requires : tie.Need-number-requires
-number-requires c κs = search needs
-
-returns : tie.Need-returns
-returns c = search needs
-
 returns-2 : tie.Need-returns-2
 returns-2 c = (omega arith, sym (length-take-le _ (c .before .before .before .before .args .bytes .now) (omega arith)))
 
 pub count-bytes-spec : {M : Type 1} → statement M
-count-bytes-spec = tie.close (tie.spec number-requires returns returns-2)
+count-bytes-spec = tie.close (tie.spec (search needs) (search needs) returns-2)

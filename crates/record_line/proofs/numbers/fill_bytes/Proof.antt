@@ -17,12 +17,6 @@ abbrev μ-loop : tie.MeasureT-loop
 loop-holds : tie.Need-loop-holds Inv-loop μ-loop
 loop-holds c = refl
 
-plus-requires : tie.Need-plus-requires Inv-loop μ-loop
-plus-requires c κs = search needs
-
-byte-requires : tie.Need-byte-requires Inv-loop μ-loop
-byte-requires c κs = search needs
-
 slice-write-bytes : tie.Need-slice-write-bytes Inv-loop μ-loop
 slice-write-bytes c = omega arith
 
@@ -48,8 +42,8 @@ fill-bytes-spec =
     Inv-loop
     μ-loop
     loop-holds
-    plus-requires
-    byte-requires
+    (search needs)
+    (search needs)
     slice-write-bytes
     add-i
     loop-less

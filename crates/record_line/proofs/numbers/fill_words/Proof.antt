@@ -17,12 +17,6 @@ abbrev μ-loop : tie.MeasureT-loop
 loop-holds : tie.Need-loop-holds Inv-loop μ-loop
 loop-holds c = refl
 
-plus-requires : tie.Need-plus-requires Inv-loop μ-loop
-plus-requires c κs = search needs
-
-word-requires : tie.Need-word-requires Inv-loop μ-loop
-word-requires c κs = search needs
-
 mul-table : tie.Need-mul-table Inv-loop μ-loop
 mul-table c = omega arith
 
@@ -51,8 +45,8 @@ fill-words-spec =
     Inv-loop
     μ-loop
     loop-holds
-    plus-requires
-    word-requires
+    (search needs)
+    (search needs)
     mul-table
     slice-write-table
     add-i

@@ -14,90 +14,6 @@ use Rattle.refusal.proofs.Refusal.report.Tie as tie
 told : (out : List ℕ) (r q : Refusal) → r ≡ q → (number q ≡ number r) × (sets out 0 (values q) ≡ sets out 0 (values r))
 told out r q e = (ap number (sym e), ap (λ (x : Refusal). sets out 0 (values x)) (sym e))
 
-enum-told : tie.Need-enum-told
-enum-told c = search needs
-
-enum-known-self : tie.Need-enum-known-self
-enum-known-self c = search needs
-
-cast-out : tie.Need-cast-out
-cast-out c = search needs
-
-element-write-out : tie.Need-element-write-out
-element-write-out c = search needs
-
-enum-known-self-2 : tie.Need-enum-known-self-2
-enum-known-self-2 c = search needs
-
-cast-out-2 : tie.Need-cast-out-2
-cast-out-2 c = search needs
-
-element-write-out-2 : tie.Need-element-write-out-2
-element-write-out-2 c = search needs
-
-enum-known-self-3 : tie.Need-enum-known-self-3
-enum-known-self-3 c = search needs
-
-cast-out-3 : tie.Need-cast-out-3
-cast-out-3 c = search needs
-
-element-write-out-3 : tie.Need-element-write-out-3
-element-write-out-3 c = search needs
-
-enum-told-2 : tie.Need-enum-told-2
-enum-told-2 c = search needs
-
-enum-told-3 : tie.Need-enum-told-3
-enum-told-3 c = search needs
-
-enum-told-4 : tie.Need-enum-told-4
-enum-told-4 c = search needs
-
-enum-known-self-4 : tie.Need-enum-known-self-4
-enum-known-self-4 c = search needs
-
-element-write-out-4 : tie.Need-element-write-out-4
-element-write-out-4 c = search needs
-
-enum-told-5 : tie.Need-enum-told-5
-enum-told-5 c = search needs
-
-enum-told-6 : tie.Need-enum-told-6
-enum-told-6 c = search needs
-
-enum-told-7 : tie.Need-enum-told-7
-enum-told-7 c = search needs
-
-enum-told-8 : tie.Need-enum-told-8
-enum-told-8 c = search needs
-
-enum-told-9 : tie.Need-enum-told-9
-enum-told-9 c = search needs
-
-enum-known-self-5 : tie.Need-enum-known-self-5
-enum-known-self-5 c = search needs
-
-element-write-out-5 : tie.Need-element-write-out-5
-element-write-out-5 c = search needs
-
-enum-known-self-6 : tie.Need-enum-known-self-6
-enum-known-self-6 c = search needs
-
-element-write-out-6 : tie.Need-element-write-out-6
-element-write-out-6 c = search needs
-
-enum-known-self-7 : tie.Need-enum-known-self-7
-enum-known-self-7 c = search needs
-
-element-write-out-7 : tie.Need-element-write-out-7
-element-write-out-7 c = search needs
-
-enum-told-10 : tie.Need-enum-told-10
-enum-told-10 c = search needs
-
-enum-told-11 : tie.Need-enum-told-11
-enum-told-11 c = search needs
-
 returns : tie.Need-returns
 returns c = told _ _ _ (c .enum-told .given .1)
 
@@ -156,34 +72,34 @@ pub report-spec : {M : Type 1} → statement M
 report-spec =
     tie.close
     (tie.spec
-    enum-told
-    enum-known-self
-    cast-out
-    element-write-out
-    enum-known-self-2
-    cast-out-2
-    element-write-out-2
-    enum-known-self-3
-    cast-out-3
-    element-write-out-3
-    enum-told-2
-    enum-told-3
-    enum-told-4
-    enum-known-self-4
-    element-write-out-4
-    enum-told-5
-    enum-told-6
-    enum-told-7
-    enum-told-8
-    enum-told-9
-    enum-known-self-5
-    element-write-out-5
-    enum-known-self-6
-    element-write-out-6
-    enum-known-self-7
-    element-write-out-7
-    enum-told-10
-    enum-told-11
+    (search needs)
+    (search needs)
+    (search needs)
+    (search needs)
+    (search needs)
+    (search needs)
+    (search needs)
+    (search needs)
+    (search needs)
+    (search needs)
+    (search needs)
+    (search needs)
+    (search needs)
+    (search needs)
+    (search needs)
+    (search needs)
+    (search needs)
+    (search needs)
+    (search needs)
+    (search needs)
+    (search needs)
+    (search needs)
+    (search needs)
+    (search needs)
+    (search needs)
+    (search needs)
+    (search needs)
+    (search needs)
     returns
     returns-2
     returns-3

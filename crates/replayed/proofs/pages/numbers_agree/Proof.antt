@@ -12,26 +12,11 @@ Inv-loop page numbers known n i₀ i = i ≤ n
 abbrev μ-loop : tie.MeasureT-loop
 μ-loop page numbers known n i₀ i = n - i
 
-header-requires : tie.Need-header-requires Inv-loop μ-loop
-header-requires c κs = search needs
-
-cast-n : tie.Need-cast-n Inv-loop μ-loop
-cast-n c = search needs
-
-returns : tie.Need-returns Inv-loop μ-loop
-returns c = search needs
-
 sub-if2 : tie.Need-sub-if2 Inv-loop μ-loop
 sub-if2 c = omega arith
 
-returns-2 : tie.Need-returns-2 Inv-loop μ-loop
-returns-2 c = search needs
-
 loop-holds : tie.Need-loop-holds Inv-loop μ-loop
 loop-holds c = omega arith
-
-number-requires : tie.Need-number-requires Inv-loop μ-loop
-number-requires c κs = search needs
 
 add-if3 : tie.Need-add-if3 Inv-loop μ-loop
 add-if3 c = omega arith
@@ -42,9 +27,6 @@ mul-if3 c = omega arith
 shared-slice-read-if3 : tie.Need-shared-slice-read-if3 Inv-loop μ-loop
 shared-slice-read-if3 c = omega arith
 
-returns-3 : tie.Need-returns-3 Inv-loop μ-loop
-returns-3 c = search needs
-
 add-i : tie.Need-add-i Inv-loop μ-loop
 add-i c = omega arith
 
@@ -54,27 +36,24 @@ loop-less c = omega arith
 loop-again : tie.Need-loop-again Inv-loop μ-loop
 loop-again c = omega arith
 
-returns-4 : tie.Need-returns-4 Inv-loop μ-loop
-returns-4 c = search needs
-
 pub numbers-agree-spec : {M : Type 1} → statement M
 numbers-agree-spec =
     tie.close
     (tie.spec
     Inv-loop
     μ-loop
-    header-requires
-    cast-n
-    returns
+    (search needs)
+    (search needs)
+    (search needs)
     sub-if2
-    returns-2
+    (search needs)
     loop-holds
-    number-requires
+    (search needs)
     add-if3
     mul-if3
     shared-slice-read-if3
-    returns-3
+    (search needs)
     add-i
     loop-less
     loop-again
-    returns-4)
+    (search needs))

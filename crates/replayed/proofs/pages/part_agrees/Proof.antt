@@ -12,14 +12,8 @@ Inv-loop page slice at n i₀ i = i ≤ n
 abbrev μ-loop : tie.MeasureT-loop
 μ-loop page slice at n i₀ i = n - i
 
-returns : tie.Need-returns Inv-loop μ-loop
-returns c = search needs
-
 sub-if2 : tie.Need-sub-if2 Inv-loop μ-loop
 sub-if2 c = omega arith
-
-returns-2 : tie.Need-returns-2 Inv-loop μ-loop
-returns-2 c = search needs
 
 loop-holds : tie.Need-loop-holds Inv-loop μ-loop
 loop-holds c = omega arith
@@ -33,9 +27,6 @@ add-if3 c = omega arith
 shared-slice-read-if3-2 : tie.Need-shared-slice-read-if3-2 Inv-loop μ-loop
 shared-slice-read-if3-2 c = omega arith
 
-returns-3 : tie.Need-returns-3 Inv-loop μ-loop
-returns-3 c = search needs
-
 add-i : tie.Need-add-i Inv-loop μ-loop
 add-i c = omega arith
 
@@ -45,24 +36,21 @@ loop-less c = omega arith
 loop-again : tie.Need-loop-again Inv-loop μ-loop
 loop-again c = omega arith
 
-returns-4 : tie.Need-returns-4 Inv-loop μ-loop
-returns-4 c = search needs
-
 pub part-agrees-spec : {M : Type 1} → statement M
 part-agrees-spec =
     tie.close
     (tie.spec
     Inv-loop
     μ-loop
-    returns
+    (search needs)
     sub-if2
-    returns-2
+    (search needs)
     loop-holds
     shared-slice-read-if3
     add-if3
     shared-slice-read-if3-2
-    returns-3
+    (search needs)
     add-i
     loop-less
     loop-again
-    returns-4)
+    (search needs))

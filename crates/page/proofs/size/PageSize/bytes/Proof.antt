@@ -6,12 +6,6 @@ use borrow.Author.Needs.{needs}
 use Rattle.page.proofs.size.PageSize.bytes.Statement.{statement}
 use Rattle.page.proofs.size.PageSize.bytes.Tie as tie
 
-mul-result : tie.Need-mul-result
-mul-result c = search needs
-
-add-result : tie.Need-add-result
-add-result c = search needs
-
 returns : tie.Need-returns
 unfolding pageBytes
 returns c = omega arith
@@ -21,4 +15,4 @@ unfolding pageBytes
 returns-2 c = omega arith
 
 pub bytes-spec : {M : Type 1} → statement M
-bytes-spec = tie.close (tie.spec mul-result add-result returns returns-2)
+bytes-spec = tie.close (tie.spec (search needs) (search needs) returns returns-2)
