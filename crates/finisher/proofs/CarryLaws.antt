@@ -22,7 +22,7 @@ use Rattle.preallocate.proofs.PlanLaws.{plan-kept, plan-left}
 use Rattle.allocator.specs.OpenSave.{Save, listOf, bumped}
 use Rattle.allocator.proofs.SaveLaws.{Stands, stands}
 use Rattle.free_list.specs.Reading.{ListTables, listIn}
-use Rattle.finisher.specs.Finish.{Finished, FinishLent, newList, encodedPages, carriedOut, finished, bytesOfPages, stored}
+use Rattle.finisher.specs.Finish.{Finished, FinishLent, newList, encodedPages, carriedOut, finished, bytesOfPages, stored, RoomLent, roomIn}
 use Rattle.finisher.specs.Steps.{popped, unchanged, planFor, newNumbers, newTables, pushList, bytesFrom, Pushable, Listed, EncodableList, Goes, Changed, Doable}
 use Rattle.finisher.specs.declared.judge.Work.{Work}
 use Rattle.finisher.proofs.EncodeLaws.{length-encodedPages}
@@ -280,8 +280,8 @@ module _ {s : ℕ} {v : Save} {freed : List ℕ} {work : Work} (h : Doable s v f
 -- ---- a finish that answers
 
 module _ {s : ℕ} {v : Save} {freed : List ℕ} {work : Work} {buffer numbers : List ℕ} (g : Goes s v freed work buffer numbers) where
-  did : Succeeds s v freed (finished s v freed) × Room s v (finished s v freed) (length buffer) (length numbers)
-  did = succeeds s v freed (length buffer) (length numbers) (finished s v freed) (g .answers)
+  did : Succeeds s v freed (finished s v freed) × Room s v (finished s v freed) (roomIn (record { buffer = buffer; numbers = numbers }))
+  did = succeeds s v freed (roomIn (record { buffer = buffer; numbers = numbers })) (finished s v freed) (g .answers)
 
   work-written : work .written ≡ length (finished s v freed .written)
   work-written = ap (λ (w : Work). w .written) (g .is)

@@ -17,7 +17,7 @@ use Rattle.page.specs.Growth.{maxBump}
 use Rattle.preallocate.proofs.PlanLaws.{plan-bump}
 use Rattle.allocator.specs.OpenSave.{Save, listOf, bumped, stateFits}
 use Rattle.allocator.proofs.SaveLaws.{Stands, stands as standing}
-use Rattle.finisher.specs.Finish.{Finished, firstBad, carriedOut, finishList, finished, finish}
+use Rattle.finisher.specs.Finish.{Finished, firstBad, carriedOut, finishList, finished, finish, RoomLent}
 use Rattle.finisher.specs.Steps.{popped, unchanged, planFor}
 
 -- ---- the two ways of a finish
@@ -55,27 +55,27 @@ pub record Succeeds (s : ℕ) (v : Save) (freed : List ℕ) (f : Finished) : Typ
   pub good : firstBad (bumped v) freed ≡ length freed
 
 -- and the room that it was lent
-pub record Room (s : ℕ) (v : Save) (f : Finished) (bytesLent numbersLent : ℕ) : Type 0 where
-  pub bytes : s * length (f .written) ≤ bytesLent
-  pub numbers : length (f .written) ≤ numbersLent
+pub record Room (s : ℕ) (v : Save) (f : Finished) (room : RoomLent) : Type 0 where
+  pub bytes : s * length (f .written) ≤ room .bytes
+  pub numbers : length (f .written) ≤ room .numbers
   pub pages : length (f .list .pages) ≤ length (v .pageTable)
   pub entries : length (f .list .entries) ≤ length (v .entryTable)
 
-pub succeeds : (s : ℕ) (v : Save) (freed : List ℕ) (bytesLent numbersLent : ℕ) (f : Finished) → finish s v freed bytesLent numbersLent ≡ answer f
-    → Succeeds s v freed f × Room s v f bytesLent numbersLent
+pub succeeds : (s : ℕ) (v : Save) (freed : List ℕ) (room : RoomLent) (f : Finished) → finish s v freed room ≡ answer f
+    → Succeeds s v freed f × Room s v f room
 unfolding finish
-succeeds s v freed bytesLent numbersLent f e =
+succeeds s v freed room f e =
     let g = finished s v freed in
     let bad = firstBad (bumped v) freed in
     let a = check-answer (stateFits s v) 1 [] _ e in
     let b = check-answer (leb (g .bump) maxBump) 7 [] _ (a .1) in
     let c = check-answer (eqb bad (length freed)) 8 (bad ∷ []) _ (b .1) in
     let d = check-answer (leb (length (g .list .pages)) (length (v .pageTable)) && leb (length (g .list .entries)) (length (v .entryTable))) 6 [] _ (c .1) in
-    let h = check-answer (leb (s * length (g .written)) bytesLent && leb (length (g .written)) numbersLent) 9 [] (answer g) (d .1) in
+    let h = check-answer (leb (s * length (g .written)) (room .bytes) && leb (length (g .written)) (room .numbers)) 9 [] (answer g) (d .1) in
     let t = and-true (leb (length (g .list .pages)) (length (v .pageTable))) _ (d .0) in
-    let u = and-true (leb (s * length (g .written)) bytesLent) _ (h .0) in
+    let u = and-true (leb (s * length (g .written)) (room .bytes)) _ (h .0) in
     let same : g ≡ f = unanswer (h .1) in
-    subst (λ (x : Finished). Succeeds s v freed x × Room s v x bytesLent numbersLent) same (
+    subst (λ (x : Finished). Succeeds s v freed x × Room s v x room) same (
       record {
         state = a .0;
         stands = standing s v (a .0);
@@ -84,8 +84,8 @@ succeeds s v freed bytesLent numbersLent f e =
         good = eqb-true bad (length freed) (c .0);
       },
       record {
-        bytes = leb-true _ bytesLent (u .0);
-        numbers = leb-true _ numbersLent (u .1);
+        bytes = leb-true _ (room .bytes) (u .0);
+        numbers = leb-true _ (room .numbers) (u .1);
         pages = leb-true _ (length (v .pageTable)) (t .0);
         entries = leb-true _ (length (v .entryTable)) (t .1);
       },

@@ -23,7 +23,7 @@ use Rattle.preallocate.proofs.FirstLaws.{capacity-fits}
 use Rattle.allocator.specs.OpenSave.{Save, listOf, bumped, stateFits}
 use Rattle.allocator.proofs.SaveLaws.{Stands, stands}
 use Rattle.free_list.specs.Shape.{headOf}
-use Rattle.finisher.specs.Finish.{Finished, finishAnswer, finished, finish}
+use Rattle.finisher.specs.Finish.{Finished, finishAnswer, finished, finish, RoomLent, roomIn}
 use Rattle.finisher.specs.Steps.{unchanged, planFor, allKept, workOf, sameWork, judged, answerOf, Begun, Goes, Changed}
 use Rattle.finisher.specs.declared.judge.Work.{Work}
 use Rattle.finisher.proofs.FinishLaws.{finished-same, Succeeds, Room, succeeds}
@@ -85,23 +85,23 @@ module _ {s : ℕ} {v : Save} {pops bump : ℕ} (b : Begun s v pops bump) where
 
 -- ---- what was judged is the outcome
 
-pub judged-refused : (s : ℕ) (v : Save) (freed : List ℕ) (bytesLent numbersLent : ℕ) {n : ℕ} {vs : List ℕ} → refused n vs ≡ judged s v freed bytesLent numbersLent
-    → finish s v freed bytesLent numbersLent ≡ refused n vs
-judged-refused s v freed bytesLent numbersLent e = withAnswer-refused (λ (f : Finished). workOf s v freed) (finish s v freed bytesLent numbersLent) (sym e)
+pub judged-refused : (s : ℕ) (v : Save) (freed : List ℕ) (room : RoomLent) {n : ℕ} {vs : List ℕ} → refused n vs ≡ judged s v freed room
+    → finish s v freed room ≡ refused n vs
+judged-refused s v freed room e = withAnswer-refused (λ (f : Finished). workOf s v freed) (finish s v freed room) (sym e)
 
-pub judged-goes : (s : ℕ) (v : Save) (freed buffer numbers : List ℕ) {work : Work} → IsPageSize s → answer work ≡ judged s v freed (length buffer) (length numbers)
+pub judged-goes : (s : ℕ) (v : Save) (freed buffer numbers : List ℕ) {work : Work} → IsPageSize s → answer work ≡ judged s v freed (roomIn (record { buffer = buffer; numbers = numbers }))
     → Goes s v freed work buffer numbers
 judged-goes s v freed buffer numbers size e =
-    let a = withAnswer-answer (λ (f : Finished). answer (workOf s v freed)) (finish s v freed (length buffer) (length numbers)) (sym e) in
+    let a = withAnswer-answer (λ (f : Finished). answer (workOf s v freed)) (finish s v freed (roomIn (record { buffer = buffer; numbers = numbers }))) (sym e) in
     record {
       size = size;
-      answers = a .1 ∙ ap answer (succeeds s v freed (length buffer) (length numbers) (a .0) (a .1) .0 .is);
+      answers = a .1 ∙ ap answer (succeeds s v freed (roomIn (record { buffer = buffer; numbers = numbers })) (a .0) (a .1) .0 .is);
       is = sym (unanswer (a .2));
     }
 
 module _ {s : ℕ} {v : Save} {freed : List ℕ} {work : Work} {buffer numbers : List ℕ} (g : Goes s v freed work buffer numbers) where
-  did : Succeeds s v freed (finished s v freed) × Room s v (finished s v freed) (length buffer) (length numbers)
-  did = succeeds s v freed (length buffer) (length numbers) (finished s v freed) (g .answers)
+  did : Succeeds s v freed (finished s v freed) × Room s v (finished s v freed) (roomIn (record { buffer = buffer; numbers = numbers }))
+  did = succeeds s v freed (roomIn (record { buffer = buffer; numbers = numbers })) (finished s v freed) (g .answers)
 
   bump-is : work .plan .bump ≡ finished s v freed .bump
   bump-is = ap (λ (w : Work). w .plan .bump) (g .is) ∙ work-bump s v freed (g .size) (did .0 .state)

@@ -231,13 +231,13 @@ good-freed limit (x ∷ ns) e n m = go (leb 1 x && ltb x limit) refl (good-freed
 
 pub finished-reads : (s : ℕ) → IsPageSize s → FinishReadsBack s
 unfolding finish finished
-finished-reads s size v store head read distinct freed bytesLent numbersLent f e inside =
+finished-reads s size v store head read distinct freed room f e inside =
     let made = finished s v freed in
     let c₁ = check-answer (stateFits s v) _ _ _ e in
     let c₂ = check-answer (leb (made .bump) maxBump) _ _ _ (c₁ .1) in
     let c₃ = check-answer (eqb (firstBad (bumped v) freed) (length freed)) _ _ _ (c₂ .1) in
     let c₄ = check-answer (leb (length (made .list .pages)) (length (v .pageTable)) && leb (length (made .list .entries)) (length (v .entryTable))) _ _ _ (c₃ .1) in
-    let c₅ = check-answer (leb (s * length (made .written)) bytesLent && leb (length (made .written)) numbersLent) _ _ _ (c₄ .1) in
+    let c₅ = check-answer (leb (s * length (made .written)) (room .bytes) && leb (length (made .written)) (room .numbers)) _ _ _ (c₄ .1) in
     let is : made ≡ f = unanswer (c₅ .1) in
     subst (λ (g : Finished). ((n : ℕ) → List·Memᴰ n freed → n < pageCount s (writePages s store (g .written))) → readList s (writePages s store (g .written)) (headOf (g .list)) ≡ answer (g .list)) is
     (made-reads (leb-true (made .bump) maxBump (c₂ .0)) (eqb-true (firstBad (bumped v) freed) (length freed) (c₃ .0))) inside

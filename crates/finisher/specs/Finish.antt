@@ -89,16 +89,21 @@ tablesOf v = record { pages = v .pageTable; entries = v .entryTable }
 unfoldable pub finished : ℕ → Save → List ℕ → Finished
 finished s v freed = finishList s (listOf v) (bumped v) (v .handed) freed
 
--- its outcome, in the order of the refusals, with so many bytes and numbers lent for the pages to write
-unfoldable pub finish : ℕ → Save → List ℕ → ℕ → ℕ → Outcome Finished
-finish s v freed bytesLent numbersLent =
+-- how much is lent for the pages to write: so many bytes, and places for so many numbers
+pub record RoomLent : Type 0 where
+  pub bytes : ℕ
+  pub numbers : ℕ
+
+-- its outcome, in the order of the refusals, with so much room lent
+unfoldable pub finish : ℕ → Save → List ℕ → RoomLent → Outcome Finished
+finish s v freed room =
     let f = finished s v freed in
     let bad = firstBad (bumped v) freed in
     check (stateFits s v) 1 []
     (check (leb (f .bump) maxBump) 7 []
     (check (eqb bad (length freed)) 8 (bad ∷ [])
     (check (hasRoom (tablesOf v) (f .list)) 6 []
-    (check (leb (s * length (f .written)) bytesLent && leb (length (f .written)) numbersLent) 9 []
+    (check (leb (s * length (f .written)) (room .bytes) && leb (length (f .written)) (room .numbers)) 9 []
     (answer f)))))
 
 -- pages one after another
@@ -121,6 +126,10 @@ pub record FinishRoom : Type 0 where
 pub record FinishLent : Type 0 where
   pub tables : ListTables
   pub room : FinishRoom
+
+-- how much room that is
+abbrev pub roomIn : FinishRoom → RoomLent
+roomIn room = record { bytes = length (room .buffer); numbers = length (room .numbers) }
 
 -- as they are before or after the call
 abbrev pub finishRoom : (Lent → List ℕ) → Lent → Lent → FinishRoom
@@ -145,4 +154,4 @@ stored l f =
 unfoldable pub finishInto : ℕ → Save → List ℕ → FinishRoom → Effect FinishAnswer FinishLent
 finishInto s v freed room =
     let l : FinishLent = record { tables = tablesOf v; room = room } in
-    leaves (finishAnswer v) (stored l) l (finish s v freed (length (room .buffer)) (length (room .numbers)))
+    leaves (finishAnswer v) (stored l) l (finish s v freed (roomIn room))

@@ -19,7 +19,7 @@ use Rattle.allocator.specs.OpenSave.{Save, listOf, bumped, stateFits}
 use Rattle.allocator.specs.declared.save.Save.{Save as SaveStruct}
 use Rattle.allocator.specs.declared.save.Start.{Start}
 use Rattle.finisher.specs.Answers.{saveWith}
-use Rattle.finisher.specs.Finish.{Finished, FinishAnswer, FinishLent, encodedPages, finished, finish, bytesOfPages, stored}
+use Rattle.finisher.specs.Finish.{Finished, FinishAnswer, RoomLent, roomIn, FinishLent, encodedPages, finished, finish, bytesOfPages, stored}
 use Rattle.finisher.specs.declared.judge.Work.{Work}
 use Rattle.finisher.specs.declared.judge.Judged.{Judged}
 use Rattle.finisher.specs.declared.judge.Judged.the-variants.{Todo, Refused}
@@ -74,18 +74,22 @@ pub record Begun (s : ℕ) (v : Save) (pops bump : ℕ) : Type 0 where
   pub bump-is : bump ≡ bumped v
   pub limit : bump ≤ maxBump
 
+-- room in numbers
+abbrev pub roomOf : ℕ → ℕ → RoomLent
+roomOf bytes numbers = record { bytes = bytes; numbers = numbers }
+
 -- what the code has judged, as an outcome; it is the finish's, of which the work is told
 abbrev pub judgedOutcome : Judged → Outcome Work
 judgedOutcome (Todo w) = answer w
 judgedOutcome (Refused r) = refusal r
 
-abbrev pub judged : ℕ → Save → List ℕ → ℕ → ℕ → Outcome Work
-judged s v freed bytesLent numbersLent = withAnswer (λ (f : Finished). answer (workOf s v freed)) (finish s v freed bytesLent numbersLent)
+abbrev pub judged : ℕ → Save → List ℕ → RoomLent → Outcome Work
+judged s v freed room = withAnswer (λ (f : Finished). answer (workOf s v freed)) (finish s v freed room)
 
 -- a finish that answers, with this buffer and this number list lent, and its work
 pub record Goes (s : ℕ) (v : Save) (freed : List ℕ) (work : Work) (buffer numbers : List ℕ) : Type 0 where
   pub size : IsPageSize s
-  pub answers : finish s v freed (length buffer) (length numbers) ≡ answer (finished s v freed)
+  pub answers : finish s v freed (roomIn (record { buffer = buffer; numbers = numbers })) ≡ answer (finished s v freed)
   pub is : work ≡ workOf s v freed
 
 -- a save that stands, and changes the list

@@ -12,7 +12,7 @@ use Rattle.free_list.specs.Shape.{FreeList, isShape, headOf}
 use Rattle.free_list.specs.Reading.{readList}
 use Rattle.preallocate.specs.Plan.{planOf}
 use Rattle.allocator.specs.OpenSave.{Save, listOf, bumped}
-use Rattle.finisher.specs.Finish.{newList, Finished, finish}
+use Rattle.finisher.specs.Finish.{newList, Finished, RoomLent, finish}
 
 -- Conservation, with c entries to a list page: counted with repeats, list pages and entries after a finish, with the k entries handed
 -- out, are those before, the freed numbers, and the numbers from the bump up to the new bump.
@@ -43,6 +43,6 @@ pub record DistinctBelow (l : FreeList) (bump : ℕ) : Type 0 where
 -- to the recorded length before.
 abbrev pub FinishReadsBack : ℕ → Type 0
 FinishReadsBack s = (v : Save) (store : List ℕ) (head : ℕ) → readList s store head ≡ answer (listOf v) → DistinctBelow (listOf v) (bumped v)
-    → (freed : List ℕ) (bytesLent numbersLent : ℕ) (f : Finished) → finish s v freed bytesLent numbersLent ≡ answer f
+    → (freed : List ℕ) (room : RoomLent) (f : Finished) → finish s v freed room ≡ answer f
     → ((n : ℕ) → List·Memᴰ n freed → n < pageCount s (writePages s store (f .written)))
     → readList s (writePages s store (f .written)) (headOf (f .list)) ≡ answer (f .list)

@@ -6,7 +6,7 @@ ghost use lib.Dec.{leb};
 ghost use Rattle.refusal.specs.Effect.{before};
 ghost use Rattle.page.specs.PageSize.{IsPageSize};
 ghost use Rattle.finisher.specs.Answers.{saveWith};
-ghost use Rattle.finisher.specs.Steps.{workOf, sameWork, judgedOutcome, judged, Begun};
+ghost use Rattle.finisher.specs.Steps.{workOf, sameWork, judgedOutcome, judged, Begun, roomOf};
 use crate::tables::first_bad;
 use allocator::save::Save;
 use allocator::save::Start;
@@ -44,7 +44,7 @@ pub(crate) fn judge(
     places: usize,
 ) -> Judged
     requires { ⌜ IsPageSize «page_size» ⌝ }
-    ensures { λ r. ⌜ judgedOutcome r ≡ judged «page_size» (saveWith save (before pages) (before entries)) (before freed) bytes places ⌝ }
+    ensures { λ r. ⌜ judgedOutcome r ≡ judged «page_size» (saveWith save (before pages) (before entries)) (before freed) (roomOf bytes places) ⌝ }
 {
     if !state_fits(page_size, save.start, pages, entries) {
         return Judged::Refused(Refusal::State);

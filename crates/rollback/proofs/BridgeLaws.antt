@@ -26,7 +26,7 @@ use Rattle.overflow.proofs.TotalsLaws.{total-positive, total-enough}
 use Rattle.overflow.proofs.CellsLaws.{count-encoded}
 use Rattle.overflow.proofs.ReadBackLaws.{decode-back, reads-back}
 use Rattle.allocator.specs.OpenSave.{Save}
-use Rattle.finisher.specs.Finish.{Finished, FinishAnswer, finishAnswer, finish, FinishRoom, FinishLent, bytesOfPages, lentPages, stored, finishInto}
+use Rattle.finisher.specs.Finish.{Finished, FinishAnswer, finishAnswer, finish, FinishRoom, FinishLent, bytesOfPages, lentPages, stored, finishInto, roomIn}
 use Rattle.finisher.proofs.FinishLaws.{succeeds}
 use Rattle.rollback.specs.Calls.{Run}
 use Rattle.rollback.specs.Rollback.{GetsList, GetsValue, OpenedOn, ToWrite, listPage}
@@ -99,7 +99,7 @@ read-opens s store head l gets t room bump recorded =
 -- what the call leaves: the finish, its writes as they lie in the buffer and the number list, and tables that open a save of the new list
 pub record LentPages (s : ℕ) (v : Save) (freed : List ℕ) (room : FinishRoom) (lent : FinishLent) (a : FinishAnswer) : Type 0 where
   pub result : Finished
-  pub succeeded : finish s v freed (length (room .buffer)) (length (room .numbers)) ≡ answer result
+  pub succeeded : finish s v freed (roomIn room) ≡ answer result
   pub answered : finishAnswer v result ≡ a
   pub writes : lentPages s (lent .room .buffer) (lent .room .numbers) 0 (a .count) ≡ result .written
   pub opens : OpenedOn (result .list) (result .bump) (openWith (lent .tables) (record { P = a .P; L = a .L }) (a .bump) (a .recorded))
@@ -108,10 +108,10 @@ module _ {s : ℕ} (size : IsPageSize s) (v : Save) (freed : List ℕ) (room : F
   abbrev before : FinishLent
   before = record { tables = record { pages = v .pageTable; entries = v .entryTable }; room = room }
 
-  stored-lent : (f : Finished) → finish s v freed (length (room .buffer)) (length (room .numbers)) ≡ answer f → LentPages s v freed room (stored before f) (finishAnswer v f)
+  stored-lent : (f : Finished) → finish s v freed (roomIn room) ≡ answer f → LentPages s v freed room (stored before f) (finishAnswer v f)
   unfolding finishAnswer
   stored-lent f e =
-      let (done, fits) = succeeds s v freed (length (room .buffer)) (length (room .numbers)) f e in
+      let (done, fits) = succeeds s v freed (roomIn room) f e in
       record {
         result = f;
         succeeded = e;

@@ -16,7 +16,7 @@ use Rattle.refusal.proofs.OutcomeLaws.{unanswer, check-answer}
 use Rattle.page.specs.Growth.{maxBump}
 use Rattle.free_list.specs.Shape.{FreeList}
 use Rattle.allocator.specs.OpenSave.{Save, bumped, stateFits, nextNumber, nextSave, HandedOut, handOut}
-use Rattle.finisher.specs.Finish.{Finished, finish}
+use Rattle.finisher.specs.Finish.{Finished, finish, RoomLent}
 use Rattle.finisher.proofs.FreshLaws.{Between, between-mem}
 use Rattle.rollback.specs.Calls.{Call, handOutCall, finishCall, Run, afterHandOut, afterFinish, run}
 use Rattle.rollback.specs.Rollback.{OpenedOn}
@@ -68,7 +68,7 @@ module _ (s : ℕ) (l : FreeList) (bump : ℕ) where
 
   -- a finish that has succeeded was one of this save
   abbrev pub Finishes : Save → Run → Type 0
-  Finishes v r = (f : Finished) → List·Memᴰ f (r .finished) → (bytesLent : ℕ) × (numbersLent : ℕ) × (finish s v (r .freed) bytesLent numbersLent ≡ answer f)
+  Finishes v r = (f : Finished) → List·Memᴰ f (r .finished) → (room : RoomLent) × (finish s v (r .freed) room ≡ answer f)
 
   -- what the calls leave: the last state of the save, which the numbers handed out and the finish are of
   pub record Ran (v : Save) (r : Run) : Type 0 where
@@ -96,19 +96,19 @@ module _ (s : ℕ) (l : FreeList) (bump : ℕ) where
       go m n q (inr h) = q .numbers m h
   after-hand-out v next stay (refused n vs) o e more r = r
 
-  after-finish : (v : Save) (freed : List ℕ) (bytesLent numbersLent : ℕ) (stay : Run) (o : Outcome Finished) → OpenedOn l bump v
-      → finish s v freed bytesLent numbersLent ≡ o → Ran v stay → Ran v (afterFinish freed stay o)
-  after-finish v freed bytesLent numbersLent stay (answer f) o e r =
-      record { last = v; of = o; later = omega arith; numbers = λ n m. absurd (List·Memᴰ·not-nil m); finishes = λ g m. (bytesLent, numbersLent, e ∙ ap answer (sym (only m))) }
+  after-finish : (v : Save) (freed : List ℕ) (room : RoomLent) (stay : Run) (o : Outcome Finished) → OpenedOn l bump v
+      → finish s v freed room ≡ o → Ran v stay → Ran v (afterFinish freed stay o)
+  after-finish v freed room stay (answer f) o e r =
+      record { last = v; of = o; later = omega arith; numbers = λ n m. absurd (List·Memᴰ·not-nil m); finishes = λ g m. (room, e ∙ ap answer (sym (only m))) }
     where
       only : {g : Finished} → List·Memᴰ g (f ∷ []) → g ≡ f
       only m = List·Memᴰ·eq-of-singleton m
-  after-finish v freed bytesLent numbersLent stay (refused n vs) o e r = r
+  after-finish v freed room stay (refused n vs) o e r = r
 
   -- every list of calls
   pub run-ran : (calls : List Call) (v : Save) → OpenedOn l bump v → Ran v (run s v calls)
   unfolding run
   run-ran [] v o = record { last = v; of = o; later = omega arith; numbers = λ n m. absurd (List·Memᴰ·not-nil m); finishes = λ f m. absurd (List·Memᴰ·not-nil m) }
   run-ran (handOutCall ∷ calls) v o = after-hand-out v (λ (next : Save). run s next calls) (run s v calls) (handOut s v) o refl (λ w p. run-ran calls w p) (run-ran calls v o)
-  run-ran (finishCall freed bytesLent numbersLent ∷ calls) v o =
-      after-finish v freed bytesLent numbersLent (run s v calls) (finish s v freed bytesLent numbersLent) o refl (run-ran calls v o)
+  run-ran (finishCall freed room ∷ calls) v o =
+      after-finish v freed room (run s v calls) (finish s v freed room) o refl (run-ran calls v o)

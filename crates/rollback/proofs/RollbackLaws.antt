@@ -112,8 +112,8 @@ module _ {s : ℕ} (size : IsPageSize s) {a : State} (first : Good s a) where
     may-write : (w : Write) → ToWrite s (run s (c .save) (c .calls)) w → MayWrite s store l bump w
     may-write w (valuePage m e) = record { whole = e; apart = inl (handed-free l bump _ (w .number) (cut-ran .numbers (w .number) m)) }
     may-write w (listPage f h m) =
-        let (bytesLent, numbersLent, e) = cut-ran .finishes f h in
-        finish-writes size stored-first (first .different) (first .below) (cut-ran .of) (succeeds s (cut-ran .last) _ bytesLent numbersLent f e .0) w m
+        let (room, e) = cut-ran .finishes f h in
+        finish-writes size stored-first (first .different) (first .below) (cut-ran .of) (succeeds s (cut-ran .last) _ room f e .0) w m
 
     pub cut-left : Left after
     cut-left = rw (c .leaves) (left-writes (store ++ c .extra) (c .writes) (left-start (c .extra)) (λ w m. may-write w (c .allowed w m)))

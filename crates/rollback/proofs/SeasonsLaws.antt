@@ -70,8 +70,8 @@ module _ {s : ℕ} (size : IsPageSize s) {a b : State} (first : Good s a) (c : C
 
   done : Succeeds s v freed f
   done =
-      let (bytesLent, numbersLent, e) = ran .finishes f (subst (List·Memᴰ f) (sym (saved .finished)) (List·Memᴰ·head refl)) in
-      succeeds s v freed bytesLent numbersLent f e .0
+      let (room, e) = ran .finishes f (subst (List·Memᴰ f) (sym (saved .finished)) (List·Memᴰ·head refl)) in
+      succeeds s v freed room f e .0
 
   abbrev L : ℕ
   L = length (l .entries)

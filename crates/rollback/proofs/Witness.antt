@@ -126,7 +126,7 @@ unfolding first list save
 opened = record { list = refl; P = refl; L = refl; start = refl }
 
 calls : List Call
-calls = finishCall (4 ∷ []) 15 1 ∷ handOutCall ∷ finishCall (4 ∷ []) 16 1 ∷ []
+calls = finishCall (4 ∷ []) (record { bytes = 15; numbers = 1 }) ∷ handOutCall ∷ finishCall (4 ∷ []) (record { bytes = 16; numbers = 1 }) ∷ []
 
 made : Run
 made = run 16 save calls

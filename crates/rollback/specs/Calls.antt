@@ -3,12 +3,12 @@ use Prim.Native.Nat.{ℕ}
 use mathlib.Core.List.{List, [], _∷_}
 use Rattle.refusal.specs.Outcome.{Outcome, answer, refused}
 use Rattle.allocator.specs.OpenSave.{Save, HandedOut, handOut}
-use Rattle.finisher.specs.Finish.{Finished, finish}
+use Rattle.finisher.specs.Finish.{Finished, finish, RoomLent}
 
--- hand out a number; or finish, with these numbers freed and so many bytes and numbers lent for the pages to write
+-- hand out a number; or finish, with these numbers freed and so much room lent for the pages to write
 pub data Call : Type 0 where
   handOutCall : Call
-  finishCall : List ℕ → ℕ → ℕ → Call
+  finishCall : List ℕ → RoomLent → Call
 
 -- what the calls leave: the numbers handed out; and the finish that succeeded, if one did, with the numbers that it freed
 pub record Run : Type 0 where
@@ -29,4 +29,4 @@ afterFinish freed stay (refused number values) = stay
 unfoldable pub run : ℕ → Save → List Call → Run
 run s v [] = record { numbers = []; finished = []; freed = [] }
 run s v (handOutCall ∷ calls) = afterHandOut (λ (next : Save). run s next calls) (run s v calls) (handOut s v)
-run s v (finishCall freed bytesLent numbersLent ∷ calls) = afterFinish freed (run s v calls) (finish s v freed bytesLent numbersLent)
+run s v (finishCall freed room ∷ calls) = afterFinish freed (run s v calls) (finish s v freed room)

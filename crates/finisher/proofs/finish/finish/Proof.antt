@@ -48,7 +48,7 @@ returns : tie.Need-returns
 unfolding finishInto
 returns c =
     let at = c .before .before .before in
-    rw (← at .before .before .before .bytes .ensures, judged-refused _ _ _ _ _ (ap judgedOutcome (sym (c .before .refusal .given .1)) ∙ at .judge .ensures))
+    rw (← at .before .before .before .bytes .ensures, judged-refused _ _ _ _ (ap judgedOutcome (sym (c .before .refusal .given .1)) ∙ at .judge .ensures))
 
 returns-2 : tie.Need-returns-2
 unfolding finishInto
