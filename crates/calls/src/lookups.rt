@@ -1,6 +1,6 @@
 // Page lookup: where a page lies, in the pending pages of a save or in the store.
 ghost use Rattle.calls.specs.Lookups.{LooksUp};
-use lookup::find::Found;
+use lookup::find::Located;
 use lookup::find::find;
 use page::number::PageNumber;
 use page::size::PageSize;
@@ -17,16 +17,16 @@ pub fn lookup(
     ensures { λ r. ⌜ LooksUp «page_size» numbers pending store page out r ⌝ }
 {
     match find(page_size, numbers, pending, store, PageNumber(page)) {
-        Found::Pending(at) => {
+        Located::Pending(at) => {
             out[0] = 0;
             out[1] = at as u64;
             0
         }
-        Found::Store(at) => {
+        Located::Store(at) => {
             out[0] = 1;
             out[1] = at as u64;
             0
         }
-        Found::Refused(r) => r.report(out),
+        Located::Refused(r) => r.report(out),
     }
 }

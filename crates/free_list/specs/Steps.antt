@@ -16,8 +16,8 @@ use Rattle.free_list.specs.declared.walk.ListCounts.{ListCounts}
 use Rattle.free_list.specs.declared.walk.Walk.{Walk}
 use Rattle.free_list.specs.declared.walk.Visited.{Visited}
 use Rattle.free_list.specs.declared.walk.Visited.the-variants.{Next, Unfit}
-use Rattle.free_list.specs.declared.walk.Walked.{Walked}
-use Rattle.free_list.specs.declared.walk.Walked.the-variants.{Ended, More, Stopped}
+use Rattle.free_list.specs.declared.walk.Descent.{Descent}
+use Rattle.free_list.specs.declared.walk.Descent.the-variants.{Ended, More, Stopped}
 
 -- what keeps the counts of a walk from wrapping: no more pages than a store has, and no more entries than they hold
 pub record WalkFits (w : Walk) : Type 0 where
@@ -42,7 +42,7 @@ module _ (s : ℕ) (store : List ℕ) (loose : Bool) where
   visitedSize (Next w) = sizeFrom w
   visitedSize (Unfit r) = refusal r
 
-  abbrev pub walkedSize : Walked → Outcome ListSize
+  abbrev pub walkedSize : Descent → Outcome ListSize
   walkedSize (Ended l) = answer (record { P = l .pages; L = l .entries })
   walkedSize (More w) = sizeFrom w
   walkedSize (Stopped r) = refusal r
@@ -99,12 +99,12 @@ module _ (s : ℕ) (store : List ℕ) (loose : Bool) where
     pub marked : Marked mark w
 
   -- a walk that goes on has used up as many pages as it may nest
-  abbrev pub Onward : ℕ → ℕ → Walk → Walked → Type 0
+  abbrev pub Onward : ℕ → ℕ → Walk → Descent → Type 0
   Onward mark nested w (Ended l) = Unit {0}
   Onward mark nested w (More n) = (n .allowed + nested ≡ w .allowed) × WalkFits n × Marked mark n
   Onward mark nested w (Stopped r) = Unit {0}
 
-  pub record Walks (mark nested : ℕ) (w : Walk) (r : Walked) : Type 0 where
+  pub record Walks (mark nested : ℕ) (w : Walk) (r : Descent) : Type 0 where
     pub size : walkedSize r ≡ sizeFrom w
     pub onward : Onward mark nested w r
 

@@ -6,9 +6,9 @@ ghost use Rattle.page.specs.PageSize.{IsPageSize, pageBytes};
 ghost use Rattle.free_list.specs.Reading.{tables, listIn, readListInto, readOutcome};
 ghost use Rattle.free_list.specs.Steps.{readSize, chainFrom, Fillable};
 use crate::page_ref::header;
+use crate::walk::Descent;
 pub use crate::walk::ListCounts;
 use crate::walk::Walk;
-use crate::walk::Walked;
 use crate::walk::walk_down;
 use page::little_endian::read_numbers;
 use page::number::PageNumber;
@@ -71,13 +71,13 @@ fn measure(page_size: usize, store: &[u8], loose: bool, head: u32) -> ReadList
     let mut due = 2;
     loop {
         match walk_down(page_size, store, count, loose, w, mark, NESTED) {
-            Walked::Ended(list) => {
+            Descent::Ended(list) => {
                 return ReadList::Read(list);
             }
-            Walked::Stopped(r) => {
+            Descent::Stopped(r) => {
                 return ReadList::Refused(r);
             }
-            Walked::More(next) => {
+            Descent::More(next) => {
                 w = next;
                 if due <= next.pages {
                     mark = next.page;

@@ -35,7 +35,7 @@ pub(crate) enum Visited {
 }
 
 // How a walk comes out: the list has ended, the walk has nested as many calls as it may and goes on from here, or it is refused.
-pub(crate) enum Walked {
+pub(crate) enum Descent {
     Ended(ListCounts),
     More(Walk),
     Stopped(Refusal),
@@ -124,27 +124,27 @@ pub(crate) fn walk_down(
     w: Walk,
     mark: u32,
     nested: usize,
-) -> Walked
+) -> Descent
     requires { ⌜ MayWalk «page_size» (now store) loose count mark w ⌝ }
     ensures { λ r. ⌜ Walks «page_size» (before store) loose mark nested w r ⌝ }
 {
     if w.page == 0 {
-        return Walked::Ended(ListCounts {
+        return Descent::Ended(ListCounts {
             pages: w.pages,
             entries: w.entries,
         });
     }
     if w.allowed == 0 {
-        return Walked::Stopped(Refusal::Chain);
+        return Descent::Stopped(Refusal::Chain);
     }
     if nested == 0 {
-        return Walked::More(w);
+        return Descent::More(w);
     }
     match visit(page_size, store, count, loose, w) {
-        Visited::Unfit(r) => Walked::Stopped(r),
+        Visited::Unfit(r) => Descent::Stopped(r),
         Visited::Next(next) => {
             if is_back(mark, next.page) {
-                return Walked::Stopped(Refusal::Chain);
+                return Descent::Stopped(Refusal::Chain);
             }
             walk_down(page_size, store, count, loose, next, mark, nested - 1)
         }

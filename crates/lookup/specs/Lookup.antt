@@ -9,8 +9,8 @@ use lib.ListN.{length, take, drop}
 use Rattle.refusal.specs.Outcome.{Outcome, answer, refused, check}
 use Rattle.refusal.specs.Refusals.{refusal}
 use Rattle.page.specs.Pages.{pageCount}
-use Rattle.lookup.specs.declared.find.Found.{Found}
-use Rattle.lookup.specs.declared.find.Found.the-variants.{Pending, Store, Refused}
+use Rattle.lookup.specs.declared.find.Located.{Located}
+use Rattle.lookup.specs.declared.find.Located.the-variants.{Pending, Store, Refused}
 
 -- the place of the first number that is the page, or the list's length
 unfoldable pub firstOf : ℕ → List ℕ → ℕ
@@ -44,7 +44,7 @@ unfoldable pub lookup : ℕ → List ℕ → List ℕ → List ℕ → ℕ → L
 lookup s numbers pending store page = bytesAt s pending store (find s numbers pending store page)
 
 -- what the code answers, as an outcome
-abbrev pub findOutcome : Found → Outcome Place
+abbrev pub findOutcome : Located → Outcome Place
 findOutcome (Pending at) = answer (pendingAt at)
 findOutcome (Store at) = answer (storeAt at)
 findOutcome (Refused r) = refusal r

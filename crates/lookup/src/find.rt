@@ -9,7 +9,7 @@ use page::store::page_count;
 use refusal::Refusal;
 
 // The first byte of the page, in the pending pages or in the store, or a refusal.
-pub enum Found {
+pub enum Located {
     Pending(usize),
     Store(usize),
     Refused(Refusal),
@@ -23,22 +23,22 @@ pub fn find(
     pending: &[u8],
     store: &[u8],
     page: PageNumber,
-) -> Found
+) -> Located
     ensures { λ r. ⌜ findOutcome r ≡ find (pageBytes «page_size») (before numbers) (before pending) (before store) (page .0) ⌝ }
 {
     let page_bytes = page_size.bytes();
     let number = page.0;
     if pending.len() / page_bytes < numbers.len() {
-        return Found::Refused(Refusal::Buffer);
+        return Located::Refused(Refusal::Buffer);
     }
     let at = position(numbers, number);
     if at < numbers.len() {
-        return Found::Pending(page_bytes * at);
+        return Located::Pending(page_bytes * at);
     }
     if page_count(page_bytes, store) <= number {
-        return Found::Refused(Refusal::Missing(number as usize));
+        return Located::Refused(Refusal::Missing(number as usize));
     }
-    Found::Store(page_bytes * (number as usize))
+    Located::Store(page_bytes * (number as usize))
 }
 
 // The place of the first number that is the page, or the length.

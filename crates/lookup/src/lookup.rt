@@ -3,7 +3,7 @@ ghost use mathlib.Core.Path.{_≡_};
 ghost use Rattle.refusal.specs.Effect.{before};
 ghost use Rattle.page.specs.PageSize.{pageBytes};
 ghost use Rattle.lookup.specs.Lookup.{lookup};
-use crate::find::Found;
+use crate::find::Located;
 use crate::find::find;
 use page::number::PageNumber;
 use page::size::PageSize;
@@ -20,14 +20,14 @@ pub fn lookup<'a>(
 {
     let page_bytes = page_size.bytes();
     match find(page_size, numbers, pending, store, page) {
-        Found::Pending(at) => {
+        Located::Pending(at) => {
             let end = at + page_bytes;
             &pending[at..end]
         }
-        Found::Store(at) => {
+        Located::Store(at) => {
             let end = at + page_bytes;
             &store[at..end]
         }
-        Found::Refused(_) => &pending[..0],
+        Located::Refused(_) => &pending[..0],
     }
 }

@@ -8,8 +8,8 @@ use mathlib.Core.List.{List}
 use native.Mathlib.Omega.{arith}
 use Rattle.free_list.specs.Steps.{readSize, sizeFrom, walkedSize, WalkFits, Marked, Onward, Walks}
 use Rattle.free_list.specs.declared.walk.Walk.{Walk}
-use Rattle.free_list.specs.declared.walk.Walked.{Walked}
-use Rattle.free_list.specs.declared.walk.Walked.the-variants.{More}
+use Rattle.free_list.specs.declared.walk.Descent.{Descent}
+use Rattle.free_list.specs.declared.walk.Descent.the-variants.{More}
 use Rattle.free_list.proofs.ReadingLaws.{size-start}
 use borrow.Author.Needs.{needs}
 use Rattle.free_list.proofs.read.measure.Statement.{statement}
@@ -22,20 +22,20 @@ record GoesOn (s : ℕ) (store : List ℕ) (loose : Bool) (mark nested : ℕ) (w
   marked : Marked s store loose mark n
   same : sizeFrom s store loose n ≡ sizeFrom s store loose w
 
-goes-on : {s : ℕ} {store : List ℕ} {loose : Bool} {mark nested : ℕ} {w n : Walk} {r : Walked} → r ≡ More n → Walks s store loose mark nested w r → GoesOn s store loose mark nested w n
+goes-on : {s : ℕ} {store : List ℕ} {loose : Bool} {mark nested : ℕ} {w n : Walk} {r : Descent} → r ≡ More n → Walks s store loose mark nested w r → GoesOn s store loose mark nested w n
 goes-on {s} {store} {loose} {mark} {nested} {w} e v =
     let o = subst (Onward s store loose mark nested w) e (v .onward) in
     record { fewer = o .0; fits = o .1; marked = o .2; same = ap (walkedSize s store loose) (sym e) ∙ v .size }
 
 -- what the loop keeps
-record Found (s : ℕ) (store : List ℕ) (loose : Bool) (head : ℕ) (w : Walk) (mark due : ℕ) : Type 0 where
+record Measuring (s : ℕ) (store : List ℕ) (loose : Bool) (head : ℕ) (w : Walk) (mark due : ℕ) : Type 0 where
   fits : WalkFits w
   same : sizeFrom s store loose w ≡ readSize s store loose head
   marked : Marked s store loose mark w
   later : 2 ≤ due
 
 abbrev Inv-loop : tie.InvT-loop
-Inv-loop page-size store loose head count w₀ mark₀ due₀ w mark due = Found page-size store loose head w mark due
+Inv-loop page-size store loose head count w₀ mark₀ due₀ w mark due = Measuring page-size store loose head w mark due
 
 abbrev μ-loop : tie.MeasureT-loop
 μ-loop page-size store loose head count w₀ mark₀ due₀ w mark due = w .allowed

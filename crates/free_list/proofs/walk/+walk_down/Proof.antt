@@ -10,8 +10,8 @@ use Rattle.free_list.specs.Steps.{visitedSize, sizeFrom, Advanced, Passe
 use Rattle.free_list.specs.declared.walk.Walk.{Walk}
 use Rattle.free_list.specs.declared.walk.Visited.{Visited}
 use Rattle.free_list.specs.declared.walk.Visited.the-variants.{Next}
-use Rattle.free_list.specs.declared.walk.Walked.{Walked}
-use Rattle.free_list.specs.declared.walk.Walked.the-variants.{Ended, More, Stopped}
+use Rattle.free_list.specs.declared.walk.Descent.{Descent}
+use Rattle.free_list.specs.declared.walk.Descent.the-variants.{Ended, More, Stopped}
 use Rattle.free_list.proofs.ReadingLaws.{size-end, size-chain}
 use Rattle.free_list.proofs.RoundLaws.{size-round, marked-next}
 use Prim.Native.Nat.{ℕ, _<_}
@@ -35,7 +35,7 @@ went-on {s} {store} {loose} {w} e v =
     record { same = ap (visitedSize s store loose) (sym e) ∙ v .size; passed = subst (Advanced s store loose w) e (v .advanced) }
 
 -- a walk behind the page nests one call less
-onward : {s : ℕ} {store : List ℕ} {loose : Bool} (mark : ℕ) {w n : Walk} (nested : ℕ) → Passed s store loose w n → (nested ≡ 0 → ⊥) → (r : Walked)
+onward : {s : ℕ} {store : List ℕ} {loose : Bool} (mark : ℕ) {w n : Walk} (nested : ℕ) → Passed s store loose w n → (nested ≡ 0 → ⊥) → (r : Descent)
     → Onward s store loose mark (nested - 1) n r → Onward s store loose mark nested w r
 onward mark nested p some (Ended l) o = tt
 onward mark nested p some (More m) o = (omega (arith, p .fewer, o .0), o .1, o .2)
