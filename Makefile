@@ -16,7 +16,7 @@ run:
 
 # Everything that a change must pass. The gate comes last, and proves all from nothing.
 test: interface limits sized
-	@if [ -d "$(NOMT_SRC)" ]; then $(ORACLE) -p compare -- --short; \
+	@if [ -d "$(NOMT_SRC)" ]; then $(ORACLE) -p compare -- --short && $(ORACLE) -p compare -- --self-test; \
 	else echo "comparison with the Rust: skipped, there is no $(NOMT_SRC)"; fi
 	@if command -v cargo >/dev/null; then $(ORACLE) -p cuts -- --short && $(ORACLE) -p cuts -- --self-test; \
 	else echo "cuts: skipped, there is no cargo"; fi

@@ -23,12 +23,6 @@ impl Form {
         }
     }
 
-    /// Any number can be passed: one that is no page size stands for the next one below, and for
-    /// the least or the greatest where there is none.
-    pub fn rounded(number: u64) -> Form {
-        Form::Sized(number.clamp(16, 65_536) / 4 * 4)
-    }
-
     pub fn page_size(self) -> usize {
         match self {
             Form::Fixed => PAGE_SIZE,

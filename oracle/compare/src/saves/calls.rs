@@ -3,7 +3,7 @@
 use super::{
     lent::{lent, list_text, numbers_text, put_list, Room},
     model::{self, After},
-    Comparison, Form, FINISH, HAND_OUT, READ_BACK,
+    Comparison, Form, Library, Linked, FINISH, HAND_OUT, READ_BACK,
 };
 use crate::{
     record::{Kind, Line},
@@ -15,8 +15,8 @@ use nomt_plain::{Held, List, Rust};
 use std::io;
 
 impl Comparison<'_> {
-    /// Numbers that are no page size, beside the page sizes that they stand for; the least and the
-    /// greatest that are.
+    /// Numbers past the greatest page size, which stand for it; the least and the greatest page size.
+    /// What is expected is made by the library itself, whatever `self.library` changes.
     pub fn page_sizes(&mut self) {
         let save = Save {
             bump: 30,
@@ -25,46 +25,33 @@ impl Comparison<'_> {
             entries: 0,
             count: 0,
         };
-        for size in [
-            0,
-            4,
-            12,
-            15,
-            17,
-            18,
-            4095,
-            4097,
-            65_537,
-            65_540,
-            1 << 32,
-            u64::MAX,
-        ] {
-            let (form, rounded) = (Form::Sized(size), Form::rounded(size));
+        let greatest = Form::Sized(65_536);
+        for size in [65_540, 1 << 32, u64::MAX] {
+            let form = Form::Sized(size);
             let text = || format!("page size {size}");
-            let library = self.library;
-            let expected = library.hand_out(rounded, &save, &[], &[]);
-            let got = library.hand_out(form, &save, &[], &[]);
+            let expected = Linked.hand_out(greatest, &save, &[], &[]);
+            let got = self.library.hand_out(form, &save, &[], &[]);
             self.reports[HAND_OUT].compare(&expected, &got, true, text);
             let room = Room {
                 pages: 3,
                 entries: 3,
-                bytes: rounded.page_size(),
+                bytes: greatest.page_size(),
                 numbers: 3,
             };
-            let finish = |form| {
+            let finish = |library: &dyn Library, form| {
                 let mut lent = lent(&vec![], room);
                 let reply = library.finish(form, &save, &[1], &mut lent);
                 (reply, lent)
             };
-            let (expected, got) = (finish(rounded), finish(form));
+            let (expected, got) = (finish(&Linked, greatest), finish(self.library, form));
             self.reports[FINISH].compare(&expected.0, &got.0, expected.1 == got.1, text);
-            let store = [vec![0; rounded.page_size()], expected.1.buffer].concat();
-            let read = |form| {
+            let store = [vec![0; greatest.page_size()], expected.1.buffer].concat();
+            let read = |library: &dyn Library, form| {
                 let (mut pages, mut entries) = (vec![0; 2], vec![0; 2]);
                 let reply = library.read_list(form, &store, 1, &mut pages, &mut entries);
                 (reply, pages, entries)
             };
-            let (expected, got) = (read(rounded), read(form));
+            let (expected, got) = (read(&Linked, greatest), read(self.library, form));
             let same = expected.1 == got.1 && expected.2 == got.2;
             self.reports[READ_BACK].compare(&expected.0, &got.0, same, text);
         }

@@ -1,9 +1,9 @@
-//! Calls of the library beside what is expected of them: writing pages, cells, and numbers that are
-//! no page size.
+//! Calls of the library beside what is expected of them: writing pages, cells, and numbers past the
+//! greatest page size.
 
 use super::{
     lent::{numbers_text, untouched_bytes, untouched_numbers},
-    model, Comparison, DECODE, DELETE, ENCODE, LOOKUP, READ, WRITE,
+    model, Comparison, Library, Linked, DECODE, DELETE, ENCODE, LOOKUP, READ, WRITE,
 };
 use crate::{
     panics::unless_panic,
@@ -17,45 +17,46 @@ use nomt_plain::Values;
 pub const UNTOUCHED_HASH: Hash = [0xA5; 32];
 
 impl Comparison<'_> {
-    /// Numbers that are no page size, beside the page sizes that they stand for.
+    /// Numbers past the greatest page size, which stand for it. What is expected is made by the
+    /// library itself, whatever `self.library` changes.
     pub fn page_sizes(&mut self) {
-        for size in [0, 4, 12, 15, 17, 18, 4095, 65_540, 1 << 32, u64::MAX] {
-            let (form, rounded) = (Form::Sized(size), Form::rounded(size));
+        let greatest = Form::Sized(65_536);
+        let bytes = greatest.page_size();
+        for size in [65_540, 1 << 32, u64::MAX] {
+            let form = Form::Sized(size);
             let text = || format!("page size {size}");
-            let bytes = rounded.page_size();
-            let library = self.library;
 
-            let write = |form| {
+            let write = |library: &dyn Library, form| {
                 let mut page = untouched_bytes(bytes);
                 let reply = library.write_value_page(form, &[7], &[1], 0, &mut page);
                 (reply, page)
             };
-            let (expected, got) = (write(rounded), write(form));
+            let (expected, got) = (write(&Linked, greatest), write(self.library, form));
             self.reports[WRITE].compare(&expected.0, &got.0, expected.1 == got.1, text);
 
             let mut cell = [0; 44];
             let (size, number) = (1, 1);
             (cell[0], cell[40]) = (size, number);
             let store = [vec![0; bytes], expected.1].concat();
-            let read = |form| {
+            let read = |library: &dyn Library, form| {
                 let (mut table, mut value) = (untouched_numbers(3), untouched_bytes(64));
                 let reply = library.read_value(form, &cell, &store, &mut table, &mut value);
                 (reply, table, value)
             };
-            let (expected, got) = (read(rounded), read(form));
+            let (expected, got) = (read(&Linked, greatest), read(self.library, form));
             let same = expected.1 == got.1 && expected.2 == got.2;
             self.reports[READ].compare(&expected.0, &got.0, same, text);
 
-            let delete = |form| {
+            let delete = |library: &dyn Library, form| {
                 let mut table = untouched_numbers(3);
                 let reply = library.delete_value(form, &cell, &store, &mut table);
                 (reply, table)
             };
-            let (expected, got) = (delete(rounded), delete(form));
+            let (expected, got) = (delete(&Linked, greatest), delete(self.library, form));
             self.reports[DELETE].compare(&expected.0, &got.0, expected.1 == got.1, text);
 
-            let expected = library.lookup(rounded, &[], &[], &store, 1);
-            let got = library.lookup(form, &[], &[], &store, 1);
+            let expected = Linked.lookup(greatest, &[], &[], &store, 1);
+            let got = self.library.lookup(form, &[], &[], &store, 1);
             self.reports[LOOKUP].compare(&expected, &got, true, text);
         }
     }
