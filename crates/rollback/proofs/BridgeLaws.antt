@@ -1,37 +1,39 @@
--- From the code to the statement: the pages that a finish leaves are the writes of the statement, its tables and those that a list was read
--- into open the next save, and a value that was written is one that its reader gets.
--- What a definition has put into a lent slice is taken out of it again.
-use Prim.Native.Nat.{ℕ, suc, _+_, _*_, _≤_}
-use mathlib.Core.Path.{_≡_, refl, sym, ap₂, subst}
-use mathlib.Core.Bool.{true, false}
-use mathlib.Core.List.{List, [], _∷_, _++_, map, append-assoc, List·Memᴰ, List·Memᴰ·head, List·Memᴰ·tail}
+-- From the code to the statement: any sequence of calls of the code is a run, the pages that a finish leaves are its writes, its tables and
+-- those that a list was read into open the next save, and a value that was written is one that its reader gets.
+-- By induction over the calls; what a definition has put into a lent slice is taken out of it again.
+use Prim.Native.Nat.{ℕ, suc, _+_, _*_, _<_, _≤_}
+use mathlib.Core.Path.{_≡_, refl, sym, _∙_, ap, ap₂, subst}
+use mathlib.Core.List.{List, [], _∷_, _++_, map, append-assoc, List·Memᴰ, List·Memᴰ·head, List·Memᴰ·tail, List·Memᴰ·not-nil, List·Memᴰ·eq-of-singleton}
 use native.Mathlib.Nat.{mul-suc, mul-zero}
 use native.Mathlib.Omega.{arith}
-use borrow.Author.Tests.{leb-true}
-use lib.Dec.{leb}
+use borrow.Author.Tests.{leb-true, ltb-false}
+use lib.Dec.{leb, ltb}
 use lib.ListN.{length, getD, take, drop, length-append, length-map}
 use lib.Seq.{sets, sets-eq, take-at, drop-at, getD-at}
-use Rattle.laws.proofs.Tests.{and-true}
-use Rattle.laws.proofs.SetsLaws.{take-sets}
-use Rattle.refusal.specs.Outcome.{answer}
-use Rattle.refusal.specs.Effect.{Effect}
+use Rattle.laws.proofs.Tests.{and-true, cond-cases}
+use Rattle.refusal.specs.Outcome.{Outcome, answer, refused}
+use Rattle.refusal.specs.Effect.{Effect, leaves}
 use Rattle.page.specs.PageSize.{IsPageSize}
 use Rattle.page.specs.Pages.{pageAt, Write}
+use Rattle.page.specs.Growth.{grown}
+use Rattle.page.proofs.GrowthLaws.{grown-covers}
 use Rattle.free_list.specs.Shape.{FreeList}
-use Rattle.free_list.specs.Reading.{ListSize, sizeOf, ListTables, listIn, hasRoom, readListInto}
+use Rattle.free_list.specs.Reading.{ListSize, ListTables, listIn}
 use Rattle.overflow.specs.Totals.{totalPages}
 use Rattle.overflow.specs.Cells.{hashSize, cellBytes, decodeCellInto}
 use Rattle.overflow.specs.Kept.{Kept, cellFor}
 use Rattle.overflow.proofs.TotalsLaws.{total-positive, total-enough}
 use Rattle.overflow.proofs.CellsLaws.{count-encoded}
 use Rattle.overflow.proofs.ReadBackLaws.{decode-back, reads-back}
-use Rattle.allocator.specs.OpenSave.{Save}
+use Rattle.allocator.specs.OpenSave.{Save, bumped, HandedOut, handOut, Counters, counters, countUp}
 use Rattle.finisher.specs.Finish.{Finished, FinishAnswer, finishAnswer, finish, FinishRoom, FinishLent, bytesOfPages, lentPages, stored, finishInto, roomIn}
-use Rattle.finisher.proofs.FinishLaws.{succeeds}
-use Rattle.rollback.specs.Calls.{Run}
-use Rattle.rollback.specs.Rollback.{GetsList, GetsValue, OpenedOn, ToWrite, listPage}
-use Rattle.rollback.proofs.ReadersLaws.{behind}
+use Rattle.finisher.proofs.FinishLaws.{Succeeds, succeeds, bump-raised}
+use Rattle.finisher.proofs.ReadBackLaws.{good-freed}
+use Rattle.rollback.specs.Calls.{inFront, openOn, Run, afterHandOut, afterFinish, run}
+use Rattle.rollback.specs.Rollback.{GetsValue, ToWrite, valuePage as valuePageAt, listPage as listPageAt}
+use Rattle.rollback.specs.CodeCalls.{CodeCall, handOutMade, finishMade, ifAnswered, Follows, callOf, numbersTold, FinishTold, toldWith, finishTold, pagesLeft, Tells, FinishIs, IsRun, CodeRuns, ReadOpens, FromCode, valuePage, listPage, CodeRollback}
 use Rattle.rollback.proofs.WritesLaws.{written-whole}
+use Rattle.rollback.proofs.RollbackLaws.{rollback}
 
 -- ---- the writes
 
@@ -72,65 +74,130 @@ lent-all s ws buffer numbers whole room places =
     rw (sets-eq (bytesOfPages ws) buffer 0 (omega (arith, length-pages s ws whole)), sets-eq (numbersOf ws) numbers 0 (omega (arith, length-map ws (λ (w : Write). w .number))))
     (lent-behind s ws [] [] _ _ 0 whole (sym (mul-zero s)) refl)
 
--- ---- opening a save
+-- ---- tables
 
--- a save that is opened with these tables, and none handed out
-abbrev pub openWith : ListTables → ListSize → ℕ → ℕ → Save
-openWith t size bump recorded = record { pageTable = t .pages; entryTable = t .entries; P = size .P; L = size .L; bump = bump; recorded = recorded; handed = 0 }
-
--- tables that a list was put into open a save of it
-list-opens : (t : ListTables) (l : FreeList) (bump recorded : ℕ) → length (l .pages) ≤ length (t .pages) → length (l .entries) ≤ length (t .entries)
-    → OpenedOn l bump (openWith (listIn t l) (sizeOf l) bump recorded)
-list-opens t l bump recorded h k =
-    let p = take-sets (t .pages) (l .pages) h in
-    let q = take-sets (t .entries) (l .entries) k in
-    record { list = λ i. record { pages = p i; entries = q i }; P = refl; L = refl; start = refl }
+-- those that a list was put into have it at the front
+list-front : (t : ListTables) (l : FreeList) → length (l .pages) ≤ length (t .pages) → length (l .entries) ≤ length (t .entries)
+    → (behind : ListTables) × (listIn t l ≡ inFront l behind)
+list-front t l h k =
+    let p = sets-eq (l .pages) (t .pages) 0 (omega arith) in
+    let q = sets-eq (l .entries) (t .entries) 0 (omega arith) in (
+      record { pages = drop (0 + length (l .pages)) (t .pages); entries = drop (0 + length (l .entries)) (t .entries) },
+      λ i. record { pages = p i; entries = q i },
+    )
 
 -- so do those that it was read into
-pub read-opens : (s : ℕ) (store : List ℕ) (head : ℕ) (l : FreeList) → GetsList s store head l → (t : ListTables) → hasRoom t l ≡ true → (bump recorded : ℕ)
-    → OpenedOn l bump (openWith (readListInto s store false head t .lent) (sizeOf l) bump recorded)
-read-opens s store head l gets t room bump recorded =
+pub read-opens : (s : ℕ) → ReadOpens s
+read-opens s store head l gets t room =
     let fits = and-true (leb (length (l .pages)) (length (t .pages))) _ room in
-    subst (λ (e : Effect ListSize ListTables). OpenedOn l bump (openWith (e .lent) (sizeOf l) bump recorded)) (sym (gets t room))
-    (list-opens t l bump recorded (leb-true _ (length (t .pages)) (fits .0)) (leb-true _ (length (t .entries)) (fits .1)))
+    let (behind, e) = list-front t l (leb-true _ (length (t .pages)) (fits .0)) (leb-true _ (length (t .entries)) (fits .1)) in
+    (behind, ap (λ (x : Effect ListSize ListTables). x .lent) (gets t room) ∙ e)
 
 -- ---- a finish that answers
-
--- what the call leaves: the finish, its writes as they lie in the buffer and the number list, and tables that open a save of the new list
-pub record LentPages (s : ℕ) (v : Save) (freed : List ℕ) (room : FinishRoom) (lent : FinishLent) (a : FinishAnswer) : Type 0 where
-  pub result : Finished
-  pub succeeded : finish s v freed (roomIn room) ≡ answer result
-  pub answered : finishAnswer v result ≡ a
-  pub writes : lentPages s (lent .room .buffer) (lent .room .numbers) 0 (a .count) ≡ result .written
-  pub opens : OpenedOn (result .list) (result .bump) (openWith (lent .tables) (record { P = a .P; L = a .L }) (a .bump) (a .recorded))
 
 module _ {s : ℕ} (size : IsPageSize s) (v : Save) (freed : List ℕ) (room : FinishRoom) where
   abbrev before : FinishLent
   before = record { tables = record { pages = v .pageTable; entries = v .entryTable }; room = room }
 
-  stored-lent : (f : Finished) → finish s v freed (roomIn room) ≡ answer f → LentPages s v freed room (stored before f) (finishAnswer v f)
+  -- the recorded length is past the bump, and so past all numbers freed
+  freed-covered : {f : Finished} → Succeeds s v freed f → (n : ℕ) → List·Memᴰ n freed → n < finishAnswer v f .recorded
   unfolding finishAnswer
-  stored-lent f e =
+  freed-covered {f} done n m =
+      let under : n < f .bump = omega (arith, good-freed (bumped v) freed (done .good) n m .1, bump-raised freed size (done .stands), ap (λ (g : Finished). g .bump) (done .is)) in
+      cond-cases (λ (r : ℕ). n < r) (ltb (v .recorded) (f .bump)) (grown (f .bump)) (v .recorded)
+      (λ e. omega (arith, grown-covers (f .bump))) (λ e. omega (arith, ltb-false (v .recorded) (f .bump) e))
+
+  stored-tells : (f : Finished) → finish s v freed (roomIn room) ≡ answer f → Tells s f (toldWith freed (stored before f) (finishAnswer v f))
+  unfolding finishAnswer
+  stored-tells f e =
       let (done, fits) = succeeds s v freed (roomIn room) f e in
       record {
-        result = f;
-        succeeded = e;
-        answered = refl;
+        head = refl;
+        bump = refl;
+        P = refl;
+        L = refl;
         writes = lent-all s (f .written) (room .buffer) (room .numbers) (written-whole done size) (fits .bytes) (fits .numbers);
-        opens = list-opens (before .tables) (f .list) (f .bump) _ (fits .pages) (fits .entries);
+        opens = list-front (before .tables) (f .list) (fits .pages) (fits .entries);
+        covers = freed-covered done;
       }
 
-  pub finish-lent : (a : FinishAnswer) → finishInto s v freed room .outcome ≡ answer a → LentPages s v freed room (finishInto s v freed room .lent) a
-  unfolding finishInto
-  finish-lent a q =
-      let b = behind (finishAnswer v) (stored before) before _ (λ i. record { outcome = q i; lent = finishInto s v freed room .lent }) in
-      subst (λ (lent : FinishLent). LentPages s v freed room lent a) (b .written-is)
-      (subst (LentPages s v freed room (stored before (b .result))) (b .told-is) (stored-lent (b .result) (b .answered)))
+-- ---- any sequence of calls
 
--- A caller who writes any of them, in any order, is inside demand 3: each is one that may be written.
-pub lent-allowed : {s : ℕ} {v : Save} {freed : List ℕ} {room : FinishRoom} {lent : FinishLent} {a : FinishAnswer} (left : LentPages s v freed room lent a)
-    → (r : Run) → r .finished ≡ left .result ∷ [] → (w : Write) → List·Memᴰ w (lentPages s (lent .room .buffer) (lent .room .numbers) 0 (a .count)) → ToWrite s r w
-lent-allowed left r done w m = listPage (left .result) (subst (List·Memᴰ (left .result)) (sym done) (List·Memᴰ·head refl)) (subst (List·Memᴰ w) (left .writes) m)
+module _ {s : ℕ} (size : IsPageSize s) (l : FreeList) (bump : ℕ) where
+  -- what they come to, from these counters
+  abbrev ran : Counters → List CodeCall → Run
+  ran c made = run s l bump c (map callOf made)
+
+  -- the claim for the calls behind the first
+  abbrev Rest : List CodeCall → Type 0
+  Rest made = (c : Counters) → Follows s l bump c made → IsRun s made (ran c made)
+
+  after-hand-out : (made : List CodeCall) → Rest made → (c : Counters) (behind : ListTables) (o : Outcome HandedOut) (e : Effect ℕ Counters)
+      → e ≡ leaves (λ (h : HandedOut). h .number) (λ (h : HandedOut). counters (h .save)) c o → Follows s l bump (e .lent) made
+      → IsRun s (handOutMade behind e ∷ made) (afterHandOut (λ (next : Counters). ran next made) (ran c made) o)
+  unfolding numbersTold finishTold
+  after-hand-out made rest c behind (answer h) e q =
+      subst
+      (λ (x : Effect ℕ Counters). Follows s l bump (x .lent) made → IsRun s (handOutMade behind x ∷ made) (afterHandOut (λ (next : Counters). ran next made) (ran c made) (answer h)))
+      (sym q)
+      (λ follows. let r = rest (counters (h .save)) follows in record { numbers = ap (λ (ns : List ℕ). h .number ∷ ns) (r .numbers); finish = r .finish })
+  after-hand-out made rest c behind (refused n vs) e q =
+      subst (λ (x : Effect ℕ Counters). Follows s l bump (x .lent) made → IsRun s (handOutMade behind x ∷ made) (ran c made)) (sym q)
+      (λ follows. let r = rest c follows in record { numbers = r .numbers; finish = r .finish })
+
+  after-finish : (made : List CodeCall) → Rest made → (c : Counters) (behind : ListTables) (freed : List ℕ) (room : FinishRoom) (o : Outcome Finished)
+      → finish s (openOn l bump c behind) freed (roomIn room) ≡ o → (e : Effect FinishAnswer FinishLent)
+      → e ≡ leaves (finishAnswer (openOn l bump c behind)) (stored (before size (openOn l bump c behind) freed room)) (before size (openOn l bump c behind) freed room) o
+      → ifAnswered (made ≡ []) (Follows s l bump c made) (e .outcome) → IsRun s (finishMade behind freed room e ∷ made) (afterFinish freed (ran c made) o)
+  unfolding numbersTold finishTold
+  after-finish made rest c behind freed room (answer f) done e q =
+      subst
+      (λ (x : Effect FinishAnswer FinishLent). ifAnswered (made ≡ []) (Follows s l bump c made) (x .outcome) → IsRun s (finishMade behind freed room x ∷ made) (afterFinish freed (ran c made) (answer f)))
+      (sym q)
+      (λ ends. record {
+        numbers = sym (ap numbersTold ends);
+        finish = (ap finishTold ends, refl, f, refl, stored-tells size (openOn l bump c behind) freed room f done);
+      })
+  after-finish made rest c behind freed room (refused n vs) done e q =
+      subst
+      (λ (x : Effect FinishAnswer FinishLent). ifAnswered (made ≡ []) (Follows s l bump c made) (x .outcome) → IsRun s (finishMade behind freed room x ∷ made) (ran c made))
+      (sym q)
+      (λ follows. let r = rest c follows in record { numbers = r .numbers; finish = r .finish })
+
+  runs : (made : List CodeCall) → Rest made
+  unfolding run numbersTold finishTold countUp finishInto
+  runs [] c follows = record { numbers = refl; finish = refl }
+  runs (handOutMade behind e ∷ made) c follows = after-hand-out made (runs made) c behind (handOut s (openOn l bump c behind)) e (follows .0) (follows .1)
+  runs (finishMade behind freed room e ∷ made) c follows =
+      after-finish made (runs made) c behind freed room (finish s (openOn l bump c behind) freed (roomIn room)) refl e (follows .0) (follows .1)
+
+pub code-runs : {s : ℕ} → IsPageSize s → CodeRuns s
+code-runs size l bump c made follows = runs size l bump made c follows
+
+-- ---- demand 3
+
+-- a page that the calls let a caller write is one that may be written
+to-write : {s : ℕ} {made : List CodeCall} {r : Run} {w : Write} → IsRun s made r → FromCode s made w → ToWrite s r w
+to-write is (valuePage m e) = valuePageAt (subst (List·Memᴰ _) (sym (is .numbers)) m) e
+to-write {s} {made} {r} {w} is (listPage t m k) = go (finishTold made) (is .finish) m
+  where
+    go : (ts : List FinishTold) → FinishIs s (r .finished) (r .freed) ts → List·Memᴰ t ts → ToWrite s r w
+    go [] f i = absurd (List·Memᴰ·not-nil i)
+    go (x ∷ ts) (none, _, f, e, tells) i =
+        let same : t ≡ x = List·Memᴰ·eq-of-singleton (subst (λ (us : List FinishTold). List·Memᴰ t (x ∷ us)) none i) in
+        listPageAt f (subst (List·Memᴰ f) (sym e) (List·Memᴰ·head refl)) (subst (List·Memᴰ w) (ap (pagesLeft s) same ∙ tells .writes) k)
+
+pub code-rollback : {s : ℕ} → IsPageSize s → CodeRollback s
+code-rollback size a good c made follows extra writes allowed =
+    let is = code-runs size (a .list) (a .bump) c made follows in
+    rollback size a _ good (record {
+      start = c;
+      calls = map callOf made;
+      extra = extra;
+      writes = writes;
+      allowed = λ w m. to-write is (allowed w m);
+      leaves = refl;
+    })
 
 -- ---- values
 

@@ -9,17 +9,17 @@ use native.Mathlib.Omega.{arith}
 use borrow.Author.Tests.{ltb-true, ltb-false}
 use lib.Dec.{ltb}
 use lib.ListN.{length, getD}
-use lib.Seq.{getD-take}
+use lib.Seq.{take-at, getD-take}
 use Rattle.refusal.specs.Outcome.{Outcome, answer, refused}
 use Rattle.laws.proofs.Tests.{cond-cases}
 use Rattle.refusal.proofs.OutcomeLaws.{unanswer, check-answer}
 use Rattle.page.specs.Growth.{maxBump}
 use Rattle.free_list.specs.Shape.{FreeList}
-use Rattle.allocator.specs.OpenSave.{Save, bumped, stateFits, nextNumber, nextSave, HandedOut, handOut}
+use Rattle.free_list.specs.Reading.{ListTables}
+use Rattle.allocator.specs.OpenSave.{Save, listOf, bumped, stateFits, nextNumber, nextSave, HandedOut, handOut, Counters, counters}
 use Rattle.finisher.specs.Finish.{Finished, finish, RoomLent}
 use Rattle.finisher.proofs.FreshLaws.{Between, between-mem}
-use Rattle.rollback.specs.Calls.{Call, handOutCall, finishCall, Run, afterHandOut, afterFinish, run}
-use Rattle.rollback.specs.Rollback.{OpenedOn}
+use Rattle.rollback.specs.Calls.{openOn, Call, handOutCall, finishCall, Run, afterHandOut, afterFinish, run}
 
 -- a number that is free at the start of the save: an entry of the first list, or one past its bump
 abbrev pub Free : FreeList → ℕ → ℕ → Type 0
@@ -37,7 +37,21 @@ handed-more : (l : FreeList) (bump h k n : ℕ) → h ≤ k → Handed l bump h 
 handed-more l bump h k n le (inl (i, a, b, e)) = inl (i, omega arith, b, e)
 handed-more l bump h k n le (inr b) = inr (b .0, omega (arith, b .1))
 
+-- a save of this list and bump: the list stands at the front of its tables
+pub record OpenedOn (l : FreeList) (bump : ℕ) (v : Save) : Type 0 where
+  pub list : listOf v ≡ l
+  pub P : v .P ≡ length (l .pages)
+  pub L : v .L ≡ length (l .entries)
+  pub start : v .bump ≡ bump
+
 module _ (s : ℕ) (l : FreeList) (bump : ℕ) where
+  -- so is each on which a call is made
+  pub opened-on : (c : Counters) (behind : ListTables) → OpenedOn l bump (openOn l bump c behind)
+  opened-on c behind =
+      let p = take-at (l .pages) (behind .pages) (length (l .pages)) refl in
+      let q = take-at (l .entries) (behind .entries) (length (l .entries)) refl in
+      record { list = λ i. record { pages = p i; entries = q i }; P = refl; L = refl; start = refl }
+
   -- the next number is handed out with one more in the count
   next-handed : (v : Save) → OpenedOn l bump v → Handed l bump (suc (v .handed)) (nextNumber v)
   unfolding nextNumber
@@ -56,7 +70,6 @@ module _ (s : ℕ) (l : FreeList) (bump : ℕ) where
   -- what a number handed out leaves
   pub record Next (v : Save) (a : HandedOut) : Type 0 where
     pub number : Handed l bump (suc (v .handed)) (a .number)
-    pub of : OpenedOn l bump (a .save)
     pub count : a .save .handed ≡ suc (v .handed)
 
   hand-out : (v : Save) (a : HandedOut) → OpenedOn l bump v → handOut s v ≡ answer a → Next v a
@@ -64,25 +77,25 @@ module _ (s : ℕ) (l : FreeList) (bump : ℕ) where
   hand-out v a o e =
       let c = check-answer (stateFits s v) 1 [] _ e in
       let d = check-answer (ltb (v .handed) (v .L) || ltb (nextNumber v) maxBump) 7 [] (answer (record { number = nextNumber v; save = nextSave v })) (c .1) in
-      subst (Next v) (unanswer (d .1)) (record { number = next-handed v o; of = record { list = o .list; P = o .P; L = o .L; start = o .start }; count = refl })
+      subst (Next v) (unanswer (d .1)) (record { number = next-handed v o; count = refl })
 
   -- a finish that has succeeded was one of this save
   abbrev pub Finishes : Save → Run → Type 0
   Finishes v r = (f : Finished) → List·Memᴰ f (r .finished) → (room : RoomLent) × (finish s v (r .freed) room ≡ answer f)
 
   -- what the calls leave: the last state of the save, which the numbers handed out and the finish are of
-  pub record Ran (v : Save) (r : Run) : Type 0 where
+  pub record Ran (c : Counters) (r : Run) : Type 0 where
     pub last : Save
     pub of : OpenedOn l bump last
-    pub later : v .handed ≤ last .handed
+    pub later : c .handed ≤ last .handed
     pub numbers : (n : ℕ) → List·Memᴰ n (r .numbers) → Handed l bump (last .handed) n
     pub finishes : Finishes last r
 
-  after-hand-out : (v : Save) (next : Save → Run) (stay : Run) (o : Outcome HandedOut) → OpenedOn l bump v → handOut s v ≡ o
-      → ((w : Save) → OpenedOn l bump w → Ran w (next w)) → Ran v stay → Ran v (afterHandOut next stay o)
+  after-hand-out : (v : Save) (next : Counters → Run) (stay : Run) (o : Outcome HandedOut) → OpenedOn l bump v → handOut s v ≡ o
+      → ((c : Counters) → Ran c (next c)) → Ran (counters v) stay → Ran (counters v) (afterHandOut next stay o)
   after-hand-out v next stay (answer a) o e more r =
       let n = hand-out v a o e in
-      let q = more (a .save) (n .of) in
+      let q = more (counters (a .save)) in
       record {
         last = q .last;
         of = q .of;
@@ -91,13 +104,13 @@ module _ (s : ℕ) (l : FreeList) (bump : ℕ) where
         finishes = q .finishes;
       }
     where
-      go : (m : ℕ) → Next v a → (q : Ran (a .save) (next (a .save))) → (m ≡ a .number) ⊎ List·Memᴰ m (next (a .save) .numbers) → Handed l bump (q .last .handed) m
+      go : (m : ℕ) → Next v a → (q : Ran (counters (a .save)) (next (counters (a .save)))) → (m ≡ a .number) ⊎ List·Memᴰ m (next (counters (a .save)) .numbers) → Handed l bump (q .last .handed) m
       go m n q (inl e) = rw e (handed-more l bump (suc (v .handed)) (q .last .handed) (a .number) (omega (arith, n .count, q .later)) (n .number))
       go m n q (inr h) = q .numbers m h
   after-hand-out v next stay (refused n vs) o e more r = r
 
   after-finish : (v : Save) (freed : List ℕ) (room : RoomLent) (stay : Run) (o : Outcome Finished) → OpenedOn l bump v
-      → finish s v freed room ≡ o → Ran v stay → Ran v (afterFinish freed stay o)
+      → finish s v freed room ≡ o → Ran (counters v) stay → Ran (counters v) (afterFinish freed stay o)
   after-finish v freed room stay (answer f) o e r =
       record { last = v; of = o; later = omega arith; numbers = λ n m. absurd (List·Memᴰ·not-nil m); finishes = λ g m. (room, e ∙ ap answer (sym (only m))) }
     where
@@ -106,9 +119,20 @@ module _ (s : ℕ) (l : FreeList) (bump : ℕ) where
   after-finish v freed room stay (refused n vs) o e r = r
 
   -- every list of calls
-  pub run-ran : (calls : List Call) (v : Save) → OpenedOn l bump v → Ran v (run s v calls)
+  pub run-ran : (calls : List Call) (c : Counters) → Ran c (run s l bump c calls)
   unfolding run
-  run-ran [] v o = record { last = v; of = o; later = omega arith; numbers = λ n m. absurd (List·Memᴰ·not-nil m); finishes = λ f m. absurd (List·Memᴰ·not-nil m) }
-  run-ran (handOutCall ∷ calls) v o = after-hand-out v (λ (next : Save). run s next calls) (run s v calls) (handOut s v) o refl (λ w p. run-ran calls w p) (run-ran calls v o)
-  run-ran (finishCall freed room ∷ calls) v o =
-      after-finish v freed room (run s v calls) (finish s v freed room) o refl (run-ran calls v o)
+  run-ran [] c =
+      let v = openOn l bump c (record { pages = []; entries = [] }) in
+      record {
+        last = v;
+        of = opened-on c (record { pages = []; entries = [] });
+        later = omega arith;
+        numbers = λ n m. absurd (List·Memᴰ·not-nil m);
+        finishes = λ f m. absurd (List·Memᴰ·not-nil m);
+      }
+  run-ran (handOutCall behind ∷ calls) c =
+      let v = openOn l bump c behind in
+      after-hand-out v (λ (next : Counters). run s l bump next calls) (run s l bump c calls) (handOut s v) (opened-on c behind) refl (λ d. run-ran calls d) (run-ran calls c)
+  run-ran (finishCall behind freed room ∷ calls) c =
+      let v = openOn l bump c behind in
+      after-finish v freed room (run s l bump c calls) (finish s v freed room) (opened-on c behind) refl (run-ran calls c)

@@ -25,8 +25,7 @@ use Rattle.overflow.specs.Cells.{cellOf}
 use Rattle.overflow.specs.Reading.{inCell}
 use Rattle.overflow.proofs.LocalLaws.{walk-local}
 use Rattle.finisher.proofs.FinishLaws.{succeeds}
-use Rattle.rollback.specs.Calls.{run}
-use Rattle.rollback.specs.Rollback.{GetsList, Value, GetsValue, State, Good, ToWrite, valuePage, listPage, Cut, Rollback}
+use Rattle.rollback.specs.Rollback.{GetsList, Value, GetsValue, State, Good, ToWrite, valuePage, listPage, Cut, runOf, Rollback}
 use Rattle.rollback.proofs.ReadersLaws.{list-read, gets-list, value-walked, gets-value}
 use Rattle.rollback.proofs.CallsLaws.{Free, handed-free, Ran, run-ran}
 use Rattle.rollback.proofs.WritesLaws.{SamePage, Apart, MayWrite, finish-writes}
@@ -106,10 +105,10 @@ module _ {s : ℕ} (size : IsPageSize s) {a : State} (first : Good s a) where
   left-writes more (w ∷ ws) k may = left-writes (writePage s more w) ws (left-write more w k (may w (List·Memᴰ·head refl))) (λ x m. may x (List·Memᴰ·tail m))
 
   module _ {after : List ℕ} (c : Cut s a after) where
-    pub cut-ran : Ran s l bump (c .save) (run s (c .save) (c .calls))
-    cut-ran = run-ran s l bump (c .calls) (c .save) (c .opened)
+    pub cut-ran : Ran s l bump (c .start) (runOf c)
+    cut-ran = run-ran s l bump (c .calls) (c .start)
 
-    may-write : (w : Write) → ToWrite s (run s (c .save) (c .calls)) w → MayWrite s store l bump w
+    may-write : (w : Write) → ToWrite s (runOf c) w → MayWrite s store l bump w
     may-write w (valuePage m e) = record { whole = e; apart = inl (handed-free l bump _ (w .number) (cut-ran .numbers (w .number) m)) }
     may-write w (listPage f h m) =
         let (room, e) = cut-ran .finishes f h in

@@ -4,7 +4,7 @@ use Prim.Native.Nat.{ℕ, _+_, _-_, min, _<_, _≤_}
 use mathlib.Core.Path.{_≡_, refl, sym, _∙_, ap, subst}
 use mathlib.Core.Logic.{_⊎_, inl, inr}
 use mathlib.Core.Bool.{false, _&&_}
-use mathlib.Core.List.{List, [], _∷_, _++_, List·Memᴰ, List·Memᴰ·head, List·Memᴰ·cases-cons, List·Memᴰ·not-nil, List·Memᴰ·append-cases, Memᴰ·cast, Memᴰ·append-right}
+use mathlib.Core.List.{List, [], _∷_, _++_, List·Memᴰ, List·Memᴰ·head, List·Memᴰ·cases-cons, List·Memᴰ·eq-of-singleton, List·Memᴰ·append-cases, Memᴰ·cast, Memᴰ·append-right}
 use native.Mathlib.Decide.{decLt}
 use native.Mathlib.Omega.{arith}
 use lib.Dec.{eqb}
@@ -30,9 +30,9 @@ use Rattle.finisher.proofs.CountLaws.{conserved}
 use Rattle.finisher.proofs.NewNumbersLaws.{new-entry, pages-below}
 use Rattle.finisher.proofs.ReadBackLaws.{good-freed, new-stored}
 use Rattle.finisher.proofs.FinishLaws.{Succeeds, succeeds}
-use Rattle.rollback.specs.Calls.{Run, run}
-use Rattle.rollback.specs.Rollback.{GetsList, Value, GetsValue, State, Good, Cut}
-use Rattle.rollback.specs.Seasons.{Saved, Season, back, onward, Seasons}
+use Rattle.rollback.specs.Calls.{Run}
+use Rattle.rollback.specs.Rollback.{GetsList, Value, GetsValue, State, Good, Cut, runOf}
+use Rattle.rollback.specs.Seasons.{Saved, Season, back, onward, Seasons, SeasonsGood, EveryCut}
 use Rattle.rollback.proofs.ReadersLaws.{gets-list}
 use Rattle.rollback.proofs.CallsLaws.{Handed, Ran}
 use Rattle.rollback.proofs.WritesLaws.{distinct-below, carried-mem, finish-cases}
@@ -49,7 +49,7 @@ between-last ns h k n e (i, a, b, q) =
 
 -- ---- a save that was written whole
 
-module _ {s : ℕ} (size : IsPageSize s) {a b : State} (first : Good s a) (c : Cut s a (b .store)) {f : Finished} (saved : Saved s a b (run s (c .save) (c .calls)) f) where
+module _ {s : ℕ} (size : IsPageSize s) {a b : State} (first : Good s a) (c : Cut s a (b .store)) {f : Finished} (saved : Saved s a b (runOf c) f) where
   abbrev l : FreeList
   l = a .list
 
@@ -57,12 +57,12 @@ module _ {s : ℕ} (size : IsPageSize s) {a b : State} (first : Good s a) (c : C
   after = b .store
 
   abbrev r : Run
-  r = run s (c .save) (c .calls)
+  r = runOf c
 
   abbrev freed : List ℕ
   freed = r .freed
 
-  ran : Ran s l (a .bump) (c .save) r
+  ran : Ran s l (a .bump) (c .start) r
   ran = cut-ran size first c
 
   abbrev v : Save
@@ -285,17 +285,14 @@ season-good {s} size first (back c e) = subst (Good s) (sym e) (back-good size f
 season-good size first (onward c f saved) = saved-good size first c saved
 
 -- So in any sequence of saves every one starts well,
-pub seasons-good : {s : ℕ} → IsPageSize s → (a : State) (bs : List State) → Good s a → Seasons s a bs → (b : State) → List·Memᴰ b bs → Good s b
-seasons-good size a [] first steps b m = absurd (List·Memᴰ·not-nil m)
-seasons-good {s} size a (x ∷ bs) first steps b m =
-    let g = season-good size first (steps .0) in
-    go g (seasons-good size x bs g (steps .1) b) (List·Memᴰ·cases-cons m)
+pub seasons-good : {s : ℕ} → IsPageSize s → SeasonsGood s
+seasons-good {s} size a [] first steps b m = subst (Good s) (sym (List·Memᴰ·eq-of-singleton m)) first
+seasons-good {s} size a (x ∷ bs) first steps b m = go (seasons-good size x bs (season-good size first (steps .0)) (steps .1) b) (List·Memᴰ·cases-cons m)
   where
-    go : Good s x → (List·Memᴰ b bs → Good s b) → (b ≡ x) ⊎ List·Memᴰ b bs → Good s b
-    go g rest (inl e) = subst (Good s) (sym e) g
-    go g rest (inr h) = rest h
+    go : (List·Memᴰ b (x ∷ bs) → Good s b) → (b ≡ a) ⊎ List·Memᴰ b (x ∷ bs) → Good s b
+    go rest (inl e) = subst (Good s) (sym e) first
+    go rest (inr h) = rest h
 
 -- and at every cut of every one of them the save before it reads as it did.
-pub every-cut : {s : ℕ} → IsPageSize s → (a : State) (bs : List State) → Good s a → Seasons s a bs → (b : State) → List·Memᴰ b bs → (after : List ℕ) → Cut s b after
-    → GetsList s after (b .head) (b .list) × ((x : Value) → List·Memᴰ x (b .values) → GetsValue s after x)
+pub every-cut : {s : ℕ} → IsPageSize s → EveryCut s
 every-cut size a bs first steps b m after c = rollback size b after (seasons-good size a bs first steps b m) c

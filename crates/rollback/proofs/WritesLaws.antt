@@ -31,8 +31,7 @@ use Rattle.finisher.proofs.NewNumbersLaws.{count-new-pages}
 use Rattle.finisher.proofs.EncodedLaws.{encoded-long, decoded-before, decoded-entries}
 use Rattle.finisher.proofs.WrittenLaws.{written-old}
 use Rattle.finisher.proofs.FinishLaws.{Succeeds}
-use Rattle.rollback.specs.Rollback.{OpenedOn}
-use Rattle.rollback.proofs.CallsLaws.{Free}
+use Rattle.rollback.proofs.CallsLaws.{Free, OpenedOn}
 
 -- numbers that differ are counted once at most
 pub distinct-below : {l : FreeList} {bump : ℕ} → Different (l .pages ++ l .entries)

@@ -13,7 +13,7 @@ use Rattle.free_list.specs.Shape.{FreeList}
 use Rattle.free_list.specs.Reading.{sizeOf, ListTables, listIn, hasRoom, readListInto}
 use Rattle.overflow.specs.Cells.{cellCount, decodeCellInto}
 use Rattle.overflow.specs.Reading.{ReadLent, readValueInto}
-use Rattle.allocator.specs.OpenSave.{Save, listOf}
+use Rattle.allocator.specs.OpenSave.{Counters}
 use Rattle.finisher.specs.Finish.{Finished}
 use Rattle.rollback.specs.Calls.{Call, Run, run}
 
@@ -55,29 +55,29 @@ pub record Good (s : ℕ) (a : State) : Type 0 where
   pub values-below : (x : Value) → List·Memᴰ x (a .values) → (n : ℕ) → List·Memᴰ n (x .numbers) → n < a .bump
   pub values-apart : (x : Value) → List·Memᴰ x (a .values) → (n : ℕ) → List·Memᴰ n (x .numbers) → List·Memᴰ n (a .list .pages ++ a .list .entries) → ⊥
 
--- an open save of this list and bump: the list stands at the front of its tables; nothing is asked of what they hold past it, nor of the
--- recorded length and the count
-pub record OpenedOn (l : FreeList) (bump : ℕ) (v : Save) : Type 0 where
-  pub list : listOf v ≡ l
-  pub P : v .P ≡ length (l .pages)
-  pub L : v .L ≡ length (l .entries)
-  pub start : v .bump ≡ bump
-
 -- what may be written: any page at a number that was handed out, and the list pages of the finish that succeeded, each at its number
 pub data ToWrite (s : ℕ) (r : Run) (w : Write) : Type 0 where
   valuePage : List·Memᴰ (w .number) (r .numbers) → length (w .bytes) ≡ s → ToWrite s r w
   listPage : (f : Finished) → List·Memᴰ f (r .finished) → List·Memᴰ w (f .written) → ToWrite s r w
 
--- the next save, cut anywhere: its calls; the bytes by which the store has grown; the pages written, each whole, in any order
+-- the next save, cut anywhere: its counters at the start, of which nothing is asked, and its calls; the bytes by which the store has
+-- grown; the pages written, each whole, in any order
 pub record Cut (s : ℕ) (a : State) (after : List ℕ) : Type 0 where
-  pub save : Save
-  pub opened : OpenedOn (a .list) (a .bump) save
+  pub start : Counters
   pub calls : List Call
   pub extra : List ℕ
   pub writes : List Write
-  pub allowed : (w : Write) → List·Memᴰ w writes → ToWrite s (run s save calls) w
+  pub allowed : (w : Write) → List·Memᴰ w writes → ToWrite s (run s (a .list) (a .bump) start calls) w
   pub leaves : after ≡ writePages s (a .store ++ extra) writes
+
+-- what the calls of such a save leave
+abbrev pub runOf : {s : ℕ} {a : State} {after : List ℕ} → Cut s a after → Run
+runOf {s} {a} c = run s (a .list) (a .bump) (c .start) (c .calls)
+
+-- a store from which the head and the cells of a save read as they did
+abbrev pub StillReads : ℕ → State → List ℕ → Type 0
+StillReads s a after = GetsList s after (a .head) (a .list) × ((x : Value) → List·Memᴰ x (a .values) → GetsValue s after x)
 
 -- demand 3: after the cut the first head and the first cells read as they did
 abbrev pub Rollback : ℕ → Type 0
-Rollback s = (a : State) (after : List ℕ) → Good s a → Cut s a after → GetsList s after (a .head) (a .list) × ((x : Value) → List·Memᴰ x (a .values) → GetsValue s after x)
+Rollback s = (a : State) (after : List ℕ) → Good s a → Cut s a after → StillReads s a after
