@@ -1,14 +1,15 @@
 -- A save that changes the list: the numbers of its plan stay in bounds and are those of its work, and the parts that are written make
 -- the new list. From the laws of the plan. Assumes nothing.
-use Prim.Native.Nat.{ℕ, zero, suc, _+_, _*_, _-_, _≤_}
+use Prim.Native.Nat.{ℕ, zero, suc, _+_, _*_, _-_, _^_, _<_, _≤_}
 use native.Mathlib.Nat.{mul-suc, mul-zero, zero-sub}
 use native.Mathlib.Omega.{arith}
 use mathlib.Core.Path.{_≡_, refl, ap, sym, _∙_}
+use mathlib.Core.Logic.{inl, inr}
 use mathlib.Core.Bool.{Bool, true, false, _&&_}
-use mathlib.Core.List.{List, [], map, append-nil}
+use mathlib.Core.List.{List, [], map, append-nil, List·Memᴰ}
 use lib.Dec.{eqb}
-use lib.ListN.{length, take}
-use lib.Seq.{sets, length-sets, length-take-le}
+use lib.ListN.{length, getD, take}
+use lib.Seq.{sets, length-sets, length-take-le, getD-take}
 use Rattle.page.specs.PageSize.{IsPageSize, capacity}
 use Rattle.page.specs.Growth.{maxBump}
 use Rattle.page.specs.Pages.{Write}
@@ -17,6 +18,7 @@ use Rattle.free_list.specs.Shape.{isShape, isFragmented}
 use Rattle.preallocate.specs.Plan.{Plan, planOf}
 use Rattle.preallocate.specs.Counts.{counts, tableList, Planable, Makes}
 use Rattle.preallocate.specs.declared.turns.Plan.{Plan as Counts}
+use Rattle.preallocate.proofs.StepsLaws.{all-kept}
 use Rattle.preallocate.proofs.SomeLaws.{plan-some}
 use Rattle.preallocate.proofs.PlanLaws.{plan-kept, plan-left}
 use Rattle.allocator.specs.OpenSave.{Save, listOf, bumped}
@@ -28,6 +30,7 @@ use Rattle.finisher.specs.declared.judge.Work.{Work}
 use Rattle.finisher.proofs.EncodeLaws.{length-encodedPages}
 use Rattle.finisher.proofs.FinishLaws.{finished-same, finished-changed, bump-raised, Succeeds, Room, succeeds}
 use Rattle.finisher.proofs.PushLaws.{Pushes, plan-pushes, plan-longer, plan-few}
+use Rattle.finisher.proofs.FreshLaws.{Taken, plan-fresh}
 use Rattle.finisher.proofs.NewListLaws.{numbers-of-pages, length-new-numbers, length-new-pages, new-written, table-pages, table-entries}
 use Rattle.finisher.proofs.NewShapeLaws.{length-pages-planned, length-entries-planned, planned-fits, planned-few}
 
@@ -191,13 +194,22 @@ module _ {s : ℕ} {v : Save} {freed : List ℕ} {work : Work} (h : Doable s v f
   pub bump-is : work .bump ≡ bumped v
   bump-is = ap (λ (w : Work). w .bump) (h .is)
 
-  -- the plan can be made again, and is the same
+  -- the plan can be made again
   pub planable : Planable s (v .pageTable) (v .entryTable) (v .P) (v .L) (work .popped) (work .bump)
   planable = rw (pops-are, bump-is) (save-planable (h .save .size) (standing (h .save)) (omega (arith, h .limit, bump-raised freed (h .save .size) (standing (h .save)))))
 
-  pub planned-again : {before : List ℕ} {r : Counts} {after : List ℕ}
-      → Makes (planOf (capacity s) (listOf v) (work .popped) freed (work .bump)) before r after → Makes (planFor s v freed) before r after
-  planned-again m = rw (pops-are, bump-is) at m
+  -- its new pages are entries, or numbers below the bump, which was judged: so they have 32 bits
+  fresh-fits : ((i : ℕ) → getD (v .entryTable) i 0 < 2 ^ 32) → (n : ℕ) → List·Memᴰ n (planFor s v freed .fresh) → n < 2 ^ 32
+  fresh-fits fits n m =
+      go (plan-fresh (capacity s) (listOf v) (popped v) freed (bumped v) (omega (arith, h .save .size .two-entries)) (shape (h .save)) .news n m)
+    where
+      go : Taken (listOf v) (popped v) (bumped v) (planFor s v freed) n → n < 2 ^ 32
+      go (inl (i, _, below, e)) = rw (e, getD-take (v .L) (v .entryTable) i 0 (omega (arith, all (h .save)))) (fits i)
+      go (inr (_, below)) = omega (arith, below, bump-planned (h .save), h .limit)
+
+  pub named-again : ((i : ℕ) → getD (v .entryTable) i 0 < 2 ^ 32) → {before : List ℕ} {r : Counts} {after : List ℕ}
+      → Makes (planOf (capacity s) (listOf v) (work .popped) freed (work .bump)) before r after → after ≡ sets before 0 (planFor s v freed .fresh)
+  named-again fits {before} m = (rw (pops-are, bump-is) at m) .named ∙ ap (sets before 0) (all-kept (planFor s v freed .fresh) (fresh-fits fits))
 
   kept-is : work .plan .pages ≡ planFor s v freed .kept
   kept-is = ap (λ (p : Counts). p .pages) plan-is

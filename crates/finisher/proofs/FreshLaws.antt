@@ -159,7 +159,3 @@ module _ (c : ℕ) (l : FreeList) (k : ℕ) (freed : List ℕ) (bump : ℕ) (pos
           × (plan .top ≡ getD (l .pages) (plan .kept - 1) 0))
       go (yes e) = inr (e, plan-pushes c l k freed bump pos shape .whole-top one e)
       go (no ne) = inl (between-mem (l .entries) _ (length (l .entries) - k) _ (omega arith) (plan-fresh .top ne))
-
-  -- The bump does not fall.
-  pub bump-rises : bump ≤ plan .bump
-  bump-rises = plan-fresh .past

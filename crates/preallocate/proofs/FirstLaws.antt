@@ -13,11 +13,12 @@ use lib.Dec.{leb, eqb}
 use borrow.Author.Tests.{leb-false, le-leb, lt-leb, eqb-true, eqb-false, eq-eqb, ne-eqb}
 use Rattle.laws.proofs.Tests.{cond-cases, and-true}
 use Rattle.page.specs.PageSize.{mostEntries, IsPageSize, capacity}
+use Rattle.page.specs.Growth.{maxBump}
 use Rattle.free_list.specs.Shape.{FreeList, isShape, isFragmented}
 use Rattle.free_list.proofs.BelowLaws.{fragmented-is}
 use Rattle.preallocate.specs.Plan.{Plan, pageNumber, pagesAfter, pushedAfter, noneLeft, renumbered, mended, emptied, firstPlan}
 use Rattle.preallocate.specs.declared.turns.Plan.{Plan as Counts}
-use Rattle.preallocate.specs.Counts.{counts, tableList, mostBump, Poppable, Planable}
+use Rattle.preallocate.specs.Counts.{counts, tableList, Poppable, Planable}
 use Rattle.preallocate.specs.Steps.{roomOf, Packed, Small}
 use Rattle.laws.proofs.ProductLaws.{times-less, times-positive}
 use Rattle.free_list.proofs.ShapeLaws.{shaped}
@@ -156,7 +157,7 @@ module _ (c : ℕ) (l : FreeList) (two : 2 ≤ c) (shape : isShape c (length (l 
       (λ g. first-renumbered some f (eqb-false _ _ g))))
 
   -- its sums have 64 bits
-  pub first-small : c ≤ mostEntries → length freed < 2 ^ 61 → P < 2 ^ 61 → L < 2 ^ 61 → bump ≤ mostBump → Small c (counts (firstPlan c l k freed bump))
+  pub first-small : c ≤ mostEntries → length freed < 2 ^ 61 → P < 2 ^ 61 → L < 2 ^ 61 → bump ≤ maxBump → Small c (counts (firstPlan c l k freed bump))
   first-small fits f p n b =
       let t = first in
       let s = t .packed in

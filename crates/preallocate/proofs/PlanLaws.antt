@@ -10,13 +10,12 @@ use mathlib.Core.Bool.{Bool, true, false, cond}
 use lib.ListN.{length, length-append}
 use lib.Dec.{leb, ltb}
 use borrow.Author.Tests.{ltb-true, ltb-false, le-ltb}
-use Rattle.laws.proofs.SetsLaws.{sets-append}
 use Rattle.free_list.specs.Shape.{FreeList, isShape}
 use Rattle.preallocate.specs.declared.turns.Plan.{Plan as Counts}
 use Rattle.preallocate.specs.Plan.{Plan, room, entry, firstPlan, swapTop, takeEntry, takeLast, takeBump, nextPlan, enoughRoom, planOf}
 use Rattle.preallocate.specs.Counts.{counts, Makes}
 use Rattle.preallocate.specs.Steps.{roomOf, wholeOf, lastOf, topSwapped, bumpTaken, entryTaken, lastTaken, taken, named, stepped, stepNames, planned, newPages, work, Packed, Short, Planned}
-use Rattle.preallocate.proofs.StepsLaws.{packed-stepped, falls-stepped, near-stepped, planned-enough, planned-more, bump-rises}
+use Rattle.preallocate.proofs.StepsLaws.{packed-stepped, falls-stepped, near-stepped, planned-enough, planned-more, bump-stepped, narrowed-append}
 use Rattle.preallocate.proofs.FirstLaws.{first}
 
 -- ---- the turns of a plan are those in numbers
@@ -78,10 +77,9 @@ then-made c l k freed bump {q} {r} {before} t rest =
     let f = firstPlan c l k freed bump in
     let turns = f .left + length (f .pushed) in
     let d = (rw (t .counted) at rest) turns (omega arith) in
-    let up : counts f .bump ≤ r .bump = rw (d .counted) (bump-rises c l turns (counts f)) in
     record {
       counted = d .counted ∙ sym (counts-enough c l turns f);
-      named = λ b. d .named b ∙ rw (t .named (omega (arith, ap (λ (x : Counts). x .bump) (t .counted))), fresh-enough c l turns f, sets-append before 0 (f .fresh) (newPages c l turns (counts f)), zero-add (length (f .fresh)));
+      named = d .named ∙ rw (t .named, fresh-enough c l turns f) (narrowed-append before 0 (f .fresh) (newPages c l turns (counts f)) (sym (zero-add (length (f .fresh)))));
     }
 
 -- ---- how the turns end
@@ -105,8 +103,7 @@ ended c l (suc k) p packed near h =
     go true e next =
         let s = ltb-true (roomOf c p) (p .pushed) e in
         let rest = next s in
-        let up = bump-rises c l (suc k) p in
-        rw (planned-more c l k p s) (record { packed = rest .packed; enough = rest .enough; tight = rest .tight; past = rw (planned-more c l k p s) at up })
+        rw (planned-more c l k p s) (record { packed = rest .packed; enough = rest .enough; tight = rest .tight; past = omega (arith, bump-stepped c l p, rest .past) })
     go false e next =
         let n = ltb-false (roomOf c p) (p .pushed) e in
         rw (planned-enough c l (suc k) p n) (record { packed = packed; enough = n; tight = near; past = omega arith })

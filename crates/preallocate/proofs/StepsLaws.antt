@@ -2,11 +2,12 @@
 -- By cases of a turn; the products are `omega`'s. Assumes nothing.
 use Prim.Native.Nat.{ℕ, zero, suc, _+_, _-_, _*_, _^_, _≤_, _<_}
 use native.Mathlib.Omega.{arith}
+use native.Mathlib.Numerals.{add-one}
 use mathlib.Core.Path.{_≡_, refl, sym, ap, _∙_}
 use mathlib.Core.Logic.{_≢_}
-use mathlib.Core.List.{List, [], _∷_, _++_}
+use mathlib.Core.List.{List, [], _∷_, _++_, map, map-append, List·Memᴰ, List·Memᴰ·head, List·Memᴰ·tail}
 use mathlib.Core.Bool.{Bool, true, false, cond}
-use lib.ListN.{length, getD}
+use lib.ListN.{length, set, getD, length-map}
 use lib.Seq.{sets}
 use lib.Dec.{leb, ltb, eqb}
 use borrow.Author.Tests.{lt-ltb, le-ltb, le-leb, ne-eqb, ltb-true, ltb-false, leb-true, leb-false, eqb-true, eqb-false}
@@ -14,6 +15,7 @@ use Rattle.laws.proofs.Tests.{and-true}
 use Rattle.laws.proofs.SetsLaws.{sets-append}
 use Rattle.free_list.specs.Shape.{FreeList}
 use Rattle.preallocate.specs.declared.turns.Plan.{Plan as Counts}
+use Rattle.preallocate.specs.Counts.{narrow}
 use Rattle.preallocate.specs.Steps.{roomOf, wholeOf, lastOf, topSwapped, bumpTaken, entryTaken, lastTaken, taken, named, stepped, stepNames, planned, newPages, work, Packed, Small, Short, Due, Took, Planned}
 use Rattle.laws.proofs.ProductLaws.{times-less, times-positive, times-least}
 
@@ -156,26 +158,36 @@ pub new-more : (c : ℕ) (l : FreeList) (k : ℕ) (p : Counts) → Short c p →
 unfolding newPages
 new-more c l k p h = rw (lt-ltb (roomOf c p) (p .pushed) h, newPages)
 
--- the bump never falls
-pub bump-rises : (c : ℕ) (l : FreeList) (k : ℕ) (p : Counts) → p .bump ≤ planned c l k p .bump
-unfolding planned
-bump-rises c l zero p = omega arith
-bump-rises c l (suc k) p = go (ltb (roomOf c p) (p .pushed)) refl (bump-rises c l k (stepped c l p))
-  where
-    go : (x : Bool) → ltb (roomOf c p) (p .pushed) ≡ x → stepped c l p .bump ≤ planned c l k (stepped c l p) .bump
-        → p .bump ≤ planned c l (suc k) p .bump
-    go true e rest =
-        let s = step-cases c l p (λ q _. p .bump ≤ q .bump) (λ h w. omega arith) (λ h. omega arith) (λ h e. omega arith) (λ h e. omega arith) in
-        rw (planned-more c l k p (ltb-true (roomOf c p) (p .pushed) e)) (omega arith)
-    go false e rest = rw (planned-enough c l (suc k) p (ltb-false (roomOf c p) (p .pushed) e)) (omega arith)
+-- the bump does not fall
+pub bump-stepped : (c : ℕ) (l : FreeList) (p : Counts) → p .bump ≤ stepped c l p .bump
+bump-stepped c l p = step-cases c l p (λ q _. p .bump ≤ q .bump) (λ h w. omega arith) (λ h. omega arith) (λ h e. omega arith) (λ h e. omega arith)
 
 -- ---- what the code's calls say, joined
+
+-- numbers of 32 bits are kept
+pub narrow-same : (n : ℕ) → n < 2 ^ 32 → narrow n ≡ n
+narrow-same n h = rw (lt-ltb n (2 ^ 32) h)
+
+pub one-kept : (out : List ℕ) (i x : ℕ) → x < 2 ^ 32 → set out i x ≡ sets out i (map narrow (x ∷ []))
+one-kept out i x h = rw (narrow-same x h)
+
+pub two-kept : (out : List ℕ) (i x y : ℕ) → x < 2 ^ 32 → y < 2 ^ 32 → set (set out i x) (i + 1) y ≡ sets out i (map narrow (x ∷ y ∷ []))
+two-kept out i x y h k = rw (narrow-same x h, narrow-same y k, add-one i)
+
+pub all-kept : (ns : List ℕ) → ((n : ℕ) → List·Memᴰ n ns → n < 2 ^ 32) → map narrow ns ≡ ns
+all-kept [] fits = refl
+all-kept (n ∷ ns) fits = rw (narrow-same n (fits n (List·Memᴰ·head refl)), all-kept ns (λ m i. fits m (List·Memᴰ·tail i)))
+
+-- numbers put behind numbers
+pub narrowed-append : (before : List ℕ) (at : ℕ) (xs ys : List ℕ) {to : ℕ} → to ≡ at + length xs
+    → sets (sets before at (map narrow xs)) to (map narrow ys) ≡ sets before at (map narrow (xs ++ ys))
+narrowed-append before at xs ys e = rw (e, map-append narrow xs ys, sets-append before at (map narrow xs) (map narrow ys), length-map xs narrow)
 
 -- nothing is left to do
 pub done : (c : ℕ) (l : FreeList) (p : Counts) (before : List ℕ) → p .pushed ≤ roomOf c p → Planned c l p before p before
 unfolding Planned
 done c l p before h k e =
-    record { counted = sym (planned-enough c l k p h); named = λ b. ap (λ (xs : List ℕ). sets before (p .fresh) xs) (sym (new-enough c l k p h)) }
+    record { counted = sym (planned-enough c l k p h); named = ap (λ (xs : List ℕ). sets before (p .fresh) (map narrow xs)) (sym (new-enough c l k p h)) }
 
 module _ {c : ℕ} {l : FreeList} {p : Counts} (packed : Packed c l p) (s : Short c p) where
   -- a swap, and what is done after it
@@ -196,11 +208,10 @@ module _ {c : ℕ} {l : FreeList} {p : Counts} (packed : Packed c l p) (s : Shor
   then-taken before mid q r after w t rest (suc k) e =
       let d = falls-taken packed s in
       let o = (rw (t .counted) at rest) k (omega arith) in
-      let up : taken c l p .bump ≤ r .bump = rw (o .counted) (bump-rises c l k (taken c l p)) in
       rw (planned-more c l k p s, new-more c l k p s, w) (
       record {
         counted = o .counted;
-        named = λ b. o .named b ∙ rw (t .named (omega (arith, ap (λ (x : Counts). x .bump) (t .counted))), sets-append before (p .fresh) (named c l p) (newPages c l k (taken c l p)), ← fresh-taken c l p);
+        named = o .named ∙ rw (t .named) (narrowed-append before (p .fresh) (named c l p) (newPages c l k (taken c l p)) (fresh-taken c l p));
       }
       )
 

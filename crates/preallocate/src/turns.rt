@@ -19,7 +19,7 @@ ghost use mathlib.Core.List.{List, [], _∷_};
 ghost use Prim.Native.Nat.{ℕ, _+_, _*_, _^_, _≤_, _<_, _-_};
 ghost use lib.ListN.{length, set, getD};
 ghost use Rattle.refusal.specs.Effect.{before, after};
-ghost use Rattle.preallocate.specs.Counts.{wholeList, Told};
+ghost use Rattle.preallocate.specs.Counts.{wholeList, narrow, Told};
 ghost use Rattle.preallocate.specs.Steps.{roomOf, wholeOf, bumpTaken, entryTaken, lastTaken, Packed, Small, Due, Took, Planned};
 
 // How far a finish has come, in numbers.
@@ -71,9 +71,9 @@ pub(crate) fn put(out: &mut [u32], i: usize, x: u32)
     }
 }
 
-// x where it has 32 bits.
+// x where it has 32 bits, else 0.
 fn low(x: usize) -> u32
-    ensures { λ r. ⌜ (x < 2 ^ 32 → r ≡ x) ⌝ }
+    ensures { λ r. ⌜ r ≡ narrow x ⌝ }
 {
     if x < 4294967296 { x as u32 } else { 0 }
 }

@@ -1,9 +1,7 @@
--- `new_pages` meets its contract: the bump was judged, so all of the plan's numbers have 32 bits.
+-- `new_pages` meets its contract: the plan is made again, and all its numbers have 32 bits.
 -- Assumes nothing.
 use native.Mathlib.Omega.{arith}
-use mathlib.Core.Path.{ap}
-use Rattle.preallocate.specs.declared.turns.Plan.{Plan as Counts}
-use Rattle.finisher.proofs.CarryLaws.{planable, planned-again, bump-planned}
+use Rattle.finisher.proofs.CarryLaws.{planable, named-again}
 use borrow.Author.Needs.{needs}
 use Rattle.finisher.proofs.carry.new_pages.Statement.{statement}
 use Rattle.finisher.proofs.carry.new_pages.Tie as tie
@@ -13,9 +11,10 @@ plan-requires c κs = planable (c .before .before .before .before .before .befor
 
 returns : tie.Need-returns
 returns c =
-    let s = c .before .before .before .before .before .before .before .before .before in
-    let e = planned-again (s .pre) (c .before .before .plan .ensures) in
-    e .named (omega (arith, ap (λ (x : Counts). x .bump) (e .counted), bump-planned (s .pre .save), s .pre .limit))
+    let planned = c .before .before in
+    let lent = planned .before .before .before .before in
+    let s = lent .before .before .before in
+    named-again (s .pre) (λ i. omega (arith, lent .shared-slice-known3 .given i)) (planned .plan .ensures)
 
 pub new-pages-spec : {M : Type 1} → statement M
 new-pages-spec = tie.close (tie.spec plan-requires (search needs) returns)

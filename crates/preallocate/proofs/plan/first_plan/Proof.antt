@@ -1,13 +1,13 @@
 -- `first_plan` meets its contract: at each return the tests that led there say which case of `firstPlan` holds, and the push list is
 -- as long as is counted. Assumes nothing.
-use Prim.Native.Nat.{ℕ, _+_, _*_, _-_, _≤_, _<_}
+use Prim.Native.Nat.{ℕ, _+_, _*_, _-_, _^_, _≤_, _<_}
 use native.Mathlib.Omega.{arith}
 use native.Mathlib.Numerals.{add-one}
 use mathlib.Core.Path.{_≡_, refl, sym, _∙_}
 use mathlib.Core.Bool.{Bool, _&&_}
 use mathlib.Core.List.{List}
 use lib.Dec.{eqb}
-use lib.ListN.{length, length-append}
+use lib.ListN.{length, getD, length-append}
 use Rattle.free_list.specs.Shape.{FreeList, isFragmented}
 use Rattle.preallocate.specs.Plan.{pushedAfter}
 use Rattle.preallocate.specs.Counts.{wholeList}
@@ -15,6 +15,7 @@ use Rattle.laws.proofs.ProductLaws.{times-less}
 use Rattle.free_list.proofs.ShapeLaws.{shaped}
 use Rattle.preallocate.proofs.PagesForLaws.{mended-pages}
 use Rattle.preallocate.proofs.FirstLaws.{after-fewer, after-some, length-pushed, first-none, first-mends, first-empties, first-renumbers}
+use Rattle.preallocate.proofs.StepsLaws.{one-kept}
 use borrow.Author.Needs.{needs}
 use Rattle.preallocate.proofs.plan.first_plan.Statement.{statement}
 use Rattle.preallocate.proofs.plan.first_plan.Tie as tie
@@ -29,6 +30,10 @@ list c = wholeList (c .args .pages .now) (c .args .entries .now)
 
 abbrev released : tie.Start → List ℕ
 released c = pushedAfter (c .args .c) (list c) (c .args .popped) (c .args .freed .now)
+
+-- an entry has 32 bits
+entry-fits : (c : tie.After-pages-after) (i : ℕ) → getD (start c .args .entries .now) i 0 < 2 ^ 32
+entry-fits c i = omega (arith, c .before .before .before .shared-slice-known2 .given i)
 
 fewer : (c : tie.After-pages-after) → c .pages-after .result ≤ length (start c .args .pages .now)
 fewer c = omega (arith, c .pages-after .ensures, after-fewer _ (list (start c)) (start c .pre .two-entries) (start c .pre .shape) (start c .args .popped))
@@ -63,7 +68,7 @@ sub-pushed c = fewer c
 returns : tie.Need-returns
 returns c =
     rw (first-none _ (list (start (c .before .before))) _ _ _ (c .before .if1 .taken)) (
-    record { counted = c .counted .ensures ∙ rw (pushes (c .before .before)); named = λ b. refl }
+    record { counted = c .counted .ensures ∙ rw (pushes (c .before .before)); named = refl }
     )
 
 mends-requires : tie.Need-mends-requires
@@ -77,7 +82,7 @@ returns-2 c =
     let tested = c .before .before in
     let s = start (counting tested) in
     rw (first-mends _ (list s) _ _ _ (tested .before .before .if1 .left) (mended-is tested (c .before .if2 .taken)), ← add-one (s .args .popped)) (
-    record { counted = c .counted2 .ensures ∙ rw (length-append (released s), pushes (counting tested)); named = λ b. refl }
+    record { counted = c .counted2 .ensures ∙ rw (length-append (released s), pushes (counting tested)); named = refl }
     )
 
 sub-if3 : tie.Need-sub-if3
@@ -103,7 +108,7 @@ returns-3 c =
     rw (first-empties _ (list (start at)) _ _ _ (tested .before .before .before .if1 .left) (mended-is (tested .before) (tested .if2 .left)) (rw (← at .pages-after .ensures, ← add-one (start at .args .popped)) (c .before .before .before .before .before .before .if3 .taken)), ← at .pages-after .ensures, ← add-one (start at .args .popped)) (
     record {
       counted = c .counted3 .ensures ∙ rw (c .before .under .ensures, length-append (released (start at)), pushes at);
-      named = λ b. c .before .before .before .before .put .ensures;
+      named = c .before .before .before .before .put .ensures ∙ one-kept (start at .args .out .now) 0 _ (entry-fits at (length (start at .args .entries .now) - (start at .args .popped + 1)));
     }
     )
 
@@ -112,7 +117,7 @@ returns-4 c =
     let tested = c .before .before in
     let at = counting (tested .before) in
     rw (first-renumbers _ (list (start at)) _ _ _ (tested .before .before .before .if1 .left) (mended-is (tested .before) (tested .if2 .left)) (rw (← at .pages-after .ensures, ← add-one (start at .args .popped)) (c .before .if3 .left)), ← at .pages-after .ensures, ← add-one (start at .args .popped)) (
-    record { counted = c .counted4 .ensures ∙ rw (length-append (released (start at)), pushes at); named = λ b. refl }
+    record { counted = c .counted4 .ensures ∙ rw (length-append (released (start at)), pushes at); named = refl }
     )
 
 pub first-plan-spec : {M : Type 1} → statement M

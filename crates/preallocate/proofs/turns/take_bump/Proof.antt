@@ -1,4 +1,4 @@
--- `take_bump` meets its contract: where the bump after it has 32 bits, so has the bump that is stored.
+-- `take_bump` meets its contract: the bump is stored as 32 bits keep it.
 -- Assumes nothing.
 use native.Mathlib.Omega.{arith}
 use mathlib.Core.Path.{refl}
@@ -10,7 +10,7 @@ returns : tie.Need-returns
 returns c =
     record {
       counted = refl;
-      named = λ b. let l = c .before .before .before .before .before .low .ensures (omega arith) in cc (c .before .before .before .before .put .ensures);
+      named = let l = c .before .before .before .before .before .low .ensures in cc (c .before .before .before .before .put .ensures);
     }
 
 pub take-bump-spec : {M : Type 1} → statement M
