@@ -1,29 +1,34 @@
--- Document 01's marked samples: one row each, at document 01's page size.
+-- Document 01's marked samples: one row each, at document 01's page size. Each is about the definition that the operation's contract
+-- cites: what is answered, and every place of what is lent, after the call.
 use Prim.Native.Nat.{ℕ, _+_, _*_, _-_, _^_}
 use mathlib.Core.Path.{_≡_}
+use mathlib.Core.Bool.{false}
 use mathlib.Core.List.{List, [], _∷_, _++_}
 use lib.ListN.{length, replicate}
+use Rattle.laws.specs.Counting.{numbersFrom}
 use Rattle.refusal.specs.Outcome.{Outcome, answer}
+use Rattle.refusal.specs.Effect.{Effect, effect}
 use Rattle.page.specs.PageSize.{pageSize}
 use Rattle.page.specs.Growth.{grow}
-use Rattle.page.specs.Pages.{Write}
 use Rattle.free_list.specs.ListPages.{encodeListPage}
 use Rattle.free_list.specs.Shape.{FreeList}
-use Rattle.free_list.specs.Reading.{readList}
-use Rattle.allocator.specs.OpenSave.{Save, HandedOut, handOut}
-use Rattle.finisher.specs.Finish.{Finished, finished}
-use Rattle.overflow.specs.Totals.{cellNumbers, body, totalPages}
-use Rattle.overflow.specs.Layout.{numbersOn, bytesOn}
+use Rattle.free_list.specs.Reading.{ListSize, ListTables, readListInto}
+use Rattle.allocator.specs.OpenSave.{Save, Counters, countUp}
+use Rattle.finisher.specs.Finish.{FinishAnswer, FinishRoom, FinishLent, finishInto}
+use Rattle.overflow.specs.Totals.{Total, cellNumbers, body, pageTotal}
+use Rattle.overflow.specs.ValuePages.{chunkInto}
 
--- the total of a size, and what page i of a value of that size holds
-abbrev pub total : ℕ → ℕ
-total size = totalPages pageSize size
+-- what lent places hold before a call
+abbrev pub old : ℕ
+old = 9
 
-abbrev pub numbers : ℕ → ℕ → ℕ
-numbers size i = numbersOn pageSize (total size) i
+abbrev pub list : List ℕ → List ℕ → FreeList
+list pages entries = record { pages = pages; entries = entries }
 
-abbrev pub bytes : ℕ → ℕ → ℕ
-bytes size i = bytesOn pageSize (total size) size i
+abbrev pub tables : List ℕ → List ℕ → ListTables
+tables pages entries = record { pages = pages; entries = entries }
+
+-- ---- reading
 
 -- a store of 22 pages with list page 10, which has entries 20, 21; all other bytes are zero
 abbrev pub store : List ℕ
@@ -32,15 +37,15 @@ store =
     ++ (0 ∷ 0 ∷ 0 ∷ 0 ∷ 2 ∷ 0 ∷ 20 ∷ 0 ∷ 0 ∷ 0 ∷ 21 ∷ 0 ∷ 0 ∷ 0 ∷ [])
     ++ replicate (pageSize * 12 - 14) 0
 
-abbrev pub list : List ℕ → List ℕ → FreeList
-list pages entries = record { pages = pages; entries = entries }
+-- ---- handing out and finishing
 
--- an open save of a list, with this bump and a recorded length of 8,192, which has handed out n numbers
+-- an open save of a list, with this bump and a recorded length of 8,192, which has handed out n numbers. Its tables have a place more
+-- than the list, and the one for entries two
 abbrev pub save : FreeList → ℕ → ℕ → Save
 save l bump n =
     record {
-      pageTable = l .pages;
-      entryTable = l .entries;
+      pageTable = l .pages ++ (old ∷ []);
+      entryTable = l .entries ++ (old ∷ old ∷ []);
       P = length (l .pages);
       L = length (l .entries);
       bump = bump;
@@ -48,23 +53,49 @@ save l bump n =
       handed = n;
     }
 
--- the next number, after n
-abbrev pub next : FreeList → ℕ → ℕ → Outcome HandedOut
-next l bump n = handOut pageSize (save l bump n)
+-- the next number, after n; and the number that is handed out, with which n are
+abbrev pub next : FreeList → ℕ → ℕ → Effect ℕ Counters
+next l bump n = countUp pageSize (save l bump n)
 
-abbrev pub handed : ℕ → Save → Outcome HandedOut
-handed number v = answer (record { number = number; save = v })
+abbrev pub handed : ℕ → ℕ → Effect ℕ Counters
+handed number n = effect (answer number) (record { handed = n; recorded = 8192 })
 
--- the save is finished with these numbers freed, and what comes of it: the list, the bump and the pages written
-abbrev pub finish : FreeList → ℕ → ℕ → List ℕ → Finished
-finish l bump n freed = finished pageSize (save l bump n) freed
+-- room for a page, with a place more for its bytes and for its number
+abbrev pub room : FinishRoom
+room = record { buffer = replicate (pageSize + 1) old; numbers = old ∷ old ∷ [] }
 
-abbrev pub becomes : FreeList → ℕ → List Write → Finished
-becomes l bump written = record { list = l; bump = bump; written = written }
+-- the save is finished with these numbers freed
+abbrev pub finish : FreeList → ℕ → ℕ → List ℕ → Effect FinishAnswer FinishLent
+finish l bump n freed = finishInto pageSize (save l bump n) freed room
 
--- a page that is written: its number, the previous page and the entries
-abbrev pub page : ℕ → ℕ → List ℕ → Write
-page number prev entries = record { number = number; bytes = encodeListPage pageSize prev entries }
+-- it writes one page, which is the whole list: its number and its entries, the bump, and the tables
+abbrev pub writes : ℕ → List ℕ → ℕ → ListTables → Effect FinishAnswer FinishLent
+writes number entries bump t =
+    effect (answer (record { head = number; bump = bump; recorded = 8192; P = 1; L = length entries; count = 1 }))
+    (record { tables = t; room = record { buffer = encodeListPage pageSize 0 entries ++ (old ∷ []); numbers = number ∷ old ∷ [] } })
+
+-- it writes none, and there is no list: the bump
+abbrev pub writesNone : ℕ → Effect FinishAnswer FinishLent
+writesNone bump =
+    effect (answer (record { head = 0; bump = bump; recorded = 8192; P = 0; L = 0; count = 0 }))
+    (record { tables = tables (old ∷ []) (old ∷ old ∷ []); room = room })
+
+-- ---- values
+
+-- a total of which so many numbers go to the cell, and the spare room
+abbrev pub pages : ℕ → ℕ → ℕ → Outcome Total
+pages total cell spare = answer (record { total = total; cell = cell; spare = spare })
+
+-- a value of 61,381 bytes: as document 01 has it, 4,088 on page 0, 4,092 on each page up to the 14th, 5 on page 15
+abbrev pub value : List ℕ
+value = replicate 4088 1 ++ (replicate (4092 * 14) 2 ++ replicate 5 3)
+
+-- page i of it is written, where its pages have the numbers 101 to 116; and these bytes are
+abbrev pub write : ℕ → Effect ℕ (List ℕ)
+write i = chunkInto pageSize value (numbersFrom 101 16) i (replicate (pageSize + 1) old)
+
+abbrev pub writesBytes : List ℕ → Effect ℕ (List ℕ)
+writesBytes bytes = effect (answer pageSize) (bytes ++ (old ∷ []))
 
 pub record Samples : Type 0 where
   pub grow-0 : grow 0 ≡ answer 8192
@@ -72,29 +103,29 @@ pub record Samples : Type 0 where
   pub grow-2 : grow 2 ≡ answer 16384
   pub grow-8193 : grow 8193 ≡ answer 16384
   pub grow-8194 : grow 8194 ≡ answer 24576
-  pub list-read : readList pageSize store 10 ≡ answer (list (10 ∷ []) (20 ∷ 21 ∷ []))
-  pub handed-out-first : next (list (10 ∷ []) (20 ∷ 21 ∷ [])) 30 0 ≡ handed 21 (save (list (10 ∷ []) (20 ∷ 21 ∷ [])) 30 1)
-  pub handed-out-second : next (list (10 ∷ []) (20 ∷ 21 ∷ [])) 30 1 ≡ handed 20 (save (list (10 ∷ []) (20 ∷ 21 ∷ [])) 30 2)
+  pub list-read : readListInto pageSize store false 10 (tables (old ∷ old ∷ []) (old ∷ old ∷ old ∷ []))
+      ≡ effect (answer (record { P = 1; L = 2 })) (tables (10 ∷ old ∷ []) (20 ∷ 21 ∷ old ∷ []))
+  pub handed-out-first : next (list (10 ∷ []) (20 ∷ 21 ∷ [])) 30 0 ≡ handed 21 1
+  pub handed-out-second : next (list (10 ∷ []) (20 ∷ 21 ∷ [])) 30 1 ≡ handed 20 2
   pub finish-popped-and-freed :
-      finish (list (10 ∷ []) (20 ∷ 21 ∷ [])) 30 1 (15 ∷ []) ≡ becomes (list (20 ∷ []) (15 ∷ 10 ∷ [])) 30 (page 20 0 (15 ∷ 10 ∷ []) ∷ [])
+      finish (list (10 ∷ []) (20 ∷ 21 ∷ [])) 30 1 (15 ∷ []) ≡ writes 20 (15 ∷ 10 ∷ []) 30 (tables (20 ∷ old ∷ []) (15 ∷ 10 ∷ old ∷ old ∷ []))
   pub finish-freed :
-      finish (list (10 ∷ []) (20 ∷ 21 ∷ [])) 30 0 (15 ∷ []) ≡ becomes (list (21 ∷ []) (20 ∷ 15 ∷ 10 ∷ [])) 30 (page 21 0 (20 ∷ 15 ∷ 10 ∷ []) ∷ [])
-  pub finish-empty-list : finish (list [] []) 30 2 [] ≡ becomes (list [] []) 32 []
-  pub finish-empty-list-freed : finish (list [] []) 30 0 (5 ∷ []) ≡ becomes (list (30 ∷ []) (5 ∷ [])) 31 (page 30 0 (5 ∷ []) ∷ [])
-  pub all-popped-first : next (list (10 ∷ []) (20 ∷ [])) 30 0 ≡ handed 20 (save (list (10 ∷ []) (20 ∷ [])) 30 1)
-  pub all-popped-second : next (list (10 ∷ []) (20 ∷ [])) 30 1 ≡ handed 30 (save (list (10 ∷ []) (20 ∷ [])) 30 2)
-  pub all-popped-third : next (list (10 ∷ []) (20 ∷ [])) 30 2 ≡ handed 31 (save (list (10 ∷ []) (20 ∷ [])) 30 3)
-  pub finish-all-popped : finish (list (10 ∷ []) (20 ∷ [])) 30 3 [] ≡ becomes (list (32 ∷ []) (10 ∷ [])) 33 (page 32 0 (10 ∷ []) ∷ [])
-  pub total-61380 : total 61380 ≡ 15
-  pub total-61381 : total 61381 ≡ 16
-  pub total-65468 : total 65468 ≡ 16
-  pub total-65469 : total 65469 ≡ 17
-  pub total-4243402 : total 4243402 ≡ 1038
-  pub total-4243403 : total 4243403 ≡ 1039
-  pub total-4243404 : total 4243404 ≡ 1039
+      finish (list (10 ∷ []) (20 ∷ 21 ∷ [])) 30 0 (15 ∷ []) ≡ writes 21 (20 ∷ 15 ∷ 10 ∷ []) 30 (tables (21 ∷ old ∷ []) (20 ∷ 15 ∷ 10 ∷ old ∷ []))
+  pub finish-empty-list : finish (list [] []) 30 2 [] ≡ writesNone 32
+  pub finish-empty-list-freed : finish (list [] []) 30 0 (5 ∷ []) ≡ writes 30 (5 ∷ []) 31 (tables (30 ∷ []) (5 ∷ old ∷ []))
+  pub all-popped-first : next (list (10 ∷ []) (20 ∷ [])) 30 0 ≡ handed 20 1
+  pub all-popped-second : next (list (10 ∷ []) (20 ∷ [])) 30 1 ≡ handed 30 2
+  pub all-popped-third : next (list (10 ∷ []) (20 ∷ [])) 30 2 ≡ handed 31 3
+  pub finish-all-popped : finish (list (10 ∷ []) (20 ∷ [])) 30 3 [] ≡ writes 32 (10 ∷ []) 33 (tables (32 ∷ old ∷ []) (10 ∷ old ∷ old ∷ []))
+  pub total-61380 : pageTotal pageSize 61380 ≡ pages 15 15 0
+  pub total-61381 : pageTotal pageSize 61381 ≡ pages 16 15 4091
+  pub total-65468 : pageTotal pageSize 65468 ≡ pages 16 15 4
+  pub total-65469 : pageTotal pageSize 65469 ≡ pages 17 15 4095
+  pub total-4243402 : pageTotal pageSize 4243402 ≡ pages 1038 15 4094
+  pub total-4243403 : pageTotal pageSize 4243403 ≡ pages 1039 15 8185
+  pub total-4243404 : pageTotal pageSize 4243404 ≡ pages 1039 15 8184
   pub total-4243403-less-would-do : body pageSize * 1038 ≡ 4243403 + 4 * (1038 - cellNumbers) + 1
   pub total-4243404-less-would-do : body pageSize * 1038 ≡ 4243404 + 4 * (1038 - cellNumbers)
-  pub total-largest : total (2 ^ 29) ≡ 131329
-  pub layout-61381-numbers-0 : numbers 61381 0 ≡ 1
-  pub layout-61381-bytes-0 : bytes 61381 0 ≡ 4088
-  pub layout-61381-bytes-15 : bytes 61381 15 ≡ 5
+  pub total-largest : pageTotal pageSize (2 ^ 29) ≡ pages 131329 15 527356
+  pub page-0-of-61381 : write 0 ≡ writesBytes (1 ∷ 0 ∷ 248 ∷ 15 ∷ 116 ∷ 0 ∷ 0 ∷ 0 ∷ replicate 4088 1)
+  pub page-15-of-61381 : write 15 ≡ writesBytes (0 ∷ 0 ∷ 5 ∷ 0 ∷ 3 ∷ 3 ∷ 3 ∷ 3 ∷ 3 ∷ replicate (pageSize - 9) 0)
