@@ -85,7 +85,7 @@ finishAnswer v f =
 abbrev pub tablesOf : Save → ListTables
 tablesOf v = record { pages = v .pageTable; entries = v .entryTable }
 
--- what a finish is, with these numbers freed
+-- what a save is finished to with these numbers freed, if no refusal stands against it
 unfoldable pub finished : ℕ → Save → List ℕ → Finished
 finished s v freed = finishList s (listOf v) (bumped v) (v .handed) freed
 

@@ -8,7 +8,7 @@ ghost use Rattle.free_list.specs.Shape.{previous, entriesBelow};
 ghost use Rattle.preallocate.specs.Counts.{tableList};
 ghost use Rattle.finisher.specs.Finish.{encodedPage};
 ghost use Rattle.finisher.specs.Steps.{Listed, EncodableList, bytesFrom};
-use free_list::list_page::encode_free_list_page;
+use free_list::encode::encode_free_list_page;
 use free_list::list_page::max_pns_per_page;
 use page::number::PageNumber;
 use preallocate::plan::is_fragmented;
@@ -58,14 +58,7 @@ fn encode_page(
     let c = max_pns_per_page(page_size);
     let from = entries_below(c, count, listed, j);
     let to = entries_below(c, count, listed, j + 1);
-    encode_free_list_page(
-        page_size,
-        previous_page(pages, j),
-        entries,
-        from,
-        to - from,
-        page,
-    );
+    encode_free_list_page(previous_page(pages, j), &entries[from..to], page);
 }
 
 // Encodes the pages from page `first` up, one behind the other.

@@ -1,7 +1,7 @@
 // What a finish comes to, in numbers: its work, or the refusal.
 ghost use mathlib.Core.Path.{_≡_};
 ghost use mathlib.Core.Bool.{_&&_};
-ghost use Prim.Native.Nat.{_*_, _-_, min, _≤_};
+ghost use Prim.Native.Nat.{_*_, _-_, _≤_};
 ghost use lib.Dec.{leb};
 ghost use Rattle.refusal.specs.Effect.{before};
 ghost use Rattle.page.specs.PageSize.{IsPageSize};
@@ -12,6 +12,7 @@ use allocator::save::Save;
 use allocator::save::Start;
 use allocator::save::state_fits;
 use page::growth::MAX_BUMP;
+use page::least::least;
 use preallocate::plan::Plan;
 use preallocate::plan::plan;
 use refusal::Refusal;
@@ -147,13 +148,6 @@ fn pages_fit(page_size: usize, n: usize, bytes: usize, places: usize) -> bool
     ensures { λ r. ⌜ r ≡ leb («page_size» * n) bytes && leb n places ⌝ }
 {
     n <= bytes / page_size && n <= places
-}
-
-// The smaller of the two.
-fn least(a: usize, b: usize) -> usize
-    ensures { λ r. ⌜ r ≡ min a b ⌝ }
-{
-    if a < b { a } else { b }
 }
 
 // One less, and 0 of 0.

@@ -1,17 +1,20 @@
 -- List pages: what is encoded is decoded again, what is decoded depends only on the bytes in use, and bytes that reach far enough say
 -- the same as a page.
-use Prim.Native.Nat.{ℕ, _+_, _*_, _-_, _^_, _<_, _≤_}
+use Prim.Native.Nat.{ℕ, _+_, _*_, _-_, _^_, min, _<_, _≤_}
 use native.Mathlib.Nat.{zero-add}
+use native.Mathlib.Decide.{decLt}
 use native.Mathlib.Omega.{arith}
 use mathlib.Core.Path.{_≡_, ap, sym, _∙_}
 use mathlib.Core.List.{List, _++_, List·Memᴰ}
-use lib.ListN.{length, getD, replicate, length-append, length-replicate}
+use lib.ListN.{length, getD, take, replicate, length-append, length-replicate}
 use borrow.Author.Tests.{le-leb, lt-leb}
-use lib.Seq.{sets, getD-append-add}
+use lib.Seq.{sets, take-all, take-length, getD-append-add}
+use Rattle.page.specs.PageSize.{capacity, IsPageSize}
 use Rattle.page.specs.Bytes.{numberAt, bytesOf, numbersAt, bytesOfAll}
 use Rattle.laws.proofs.SetsLaws.{sets-append, sets-whole}
+use Rattle.page.proofs.PageSizeLaws.{page-least, page-room}
 use Rattle.page.proofs.BytesLaws.{numberAt-same, numberAt-append-left, numberAt-append-right, numbersAt-same, numberAt-bytesOf, numbersAt-bytesOfAll, length-bytesOf, length-numbersAt, length-bytesOfAll}
-use Rattle.free_list.specs.ListPages.{prevOf, countOf, entriesOf, encodeListPage, prevWithin, countWithin, entryWithin}
+use Rattle.free_list.specs.ListPages.{prevOf, countOf, entriesOf, encodeListPage, prevWithin, countWithin, entryWithin, places, pageWithin}
 
 pub length-entriesOf : (b : List ℕ) → length (entriesOf b) ≡ countOf b
 unfolding entriesOf
@@ -114,3 +117,27 @@ count-past b h = rw (lt-leb 6 (length b) h)
 pub entry-past : (b : List ℕ) (i : ℕ) → length b < 10 + 4 * i → entryWithin b i ≡ 0
 unfolding entryWithin
 entry-past b i h = rw (lt-leb (10 + 4 * i) (length b) h)
+
+-- ---- a page of bytes of any length
+
+-- as many entries as there are places fit
+pub places-fit : (n : ℕ) → 6 ≤ n → (6 + 4 * places n ≤ n) × (places n < 2 ^ 16)
+unfolding places capacity
+places-fit n h = (omega arith, omega arith)
+
+-- the first ones, of those that there are
+pub take-least : (ns : List ℕ) (n : ℕ) → take (min (length ns) n) ns ≡ take n ns
+take-least ns n = go (decLt n (length ns))
+  where
+    go : Dec (n < length ns) → take (min (length ns) n) ns ≡ take n ns
+    go (yes h) = let e : min (length ns) n ≡ n = omega arith in rw e
+    go (no h) =
+        let e : min (length ns) n ≡ length ns = omega arith in
+        rw e (take-length ns ∙ sym (take-all n ns (omega arith)))
+
+-- at a page size, with entries that fit, it is the list page
+pub page-within : {s : ℕ} → IsPageSize s → (prev : ℕ) (entries b : List ℕ) → length b ≡ s → length entries ≤ capacity s → pageWithin prev entries b ≡ encodeListPage s prev entries
+unfolding pageWithin places
+page-within {s} size prev entries b e few =
+    let limit : capacity s < 2 ^ 16 = omega (arith, page-room (capacity s) size (omega arith), size .limit) in
+    rw (e, le-leb 6 s (omega (arith, page-least size)), take-all (min (capacity s) (2 ^ 16 - 1)) entries (omega arith))

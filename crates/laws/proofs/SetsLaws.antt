@@ -42,17 +42,6 @@ part-copied l m a from to i n h e =
     let long : length first ≡ i = length-take-le i (drop from a) (omega (arith, length-drop from a)) in
     rw (take-add i n (drop from a), drop-drop i from a, sets-append l to first (take n (drop (from + i) a)), long, ← e)
 
--- eight values, one after another
-pub word-copied : (l a : List ℕ) (from to : ℕ) → from + 8 ≤ length a
-    → set (set (set (set (set (set (set (set l to (getD a from 0)) (to + 1) (getD a (from + 1) 0)) (to + 2) (getD a (from + 2) 0)) (to + 3) (getD a (from + 3) 0)) (to + 4) (getD a (from + 4) 0)) (to + 5) (getD a (from + 5) 0)) (to + 6) (getD a (from + 6) 0)) (to + 7) (getD a (from + 7) 0)
-    ≡ sets l to (take 8 (drop from a))
-word-copied l a from to h =
-    let start : set l to (getD a from 0) ≡ sets l to (take 1 (drop from a)) = rw (add-zero to, add-zero from) at (copied-more l l a from to 0 (omega arith) refl) in
-    more 7 (omega arith) (more 6 (omega arith) (more 5 (omega arith) (more 4 (omega arith) (more 3 (omega arith) (more 2 (omega arith) (more 1 (omega arith) start))))))
-  where
-    more : (i : ℕ) {m : List ℕ} → i < 8 → m ≡ sets l to (take i (drop from a)) → set m (to + i) (getD a (from + i) 0) ≡ sets l to (take (i + 1) (drop from a))
-    more i {m} less e = copied-more l m a from to i (omega arith) e
-
 -- all places
 pub sets-whole : (l vs : List ℕ) → length vs ≡ length l → sets l 0 vs ≡ vs
 sets-whole l vs e =

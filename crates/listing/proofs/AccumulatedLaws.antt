@@ -16,7 +16,7 @@ use Rattle.listing.specs.declared.line.Size.the-variants.{Bad, Bytes}
 use Rattle.listing.specs.Decimal.{isDigit, allDigits, decimalAfter, decimalOf}
 use Rattle.listing.specs.Lines.{sizeOf}
 use Rattle.listing.specs.Text.{sizeText, lineText}
-use Rattle.listing.specs.Accumulated.{noBytes, noSize, withByte, withBytes, withParts, accumulatedSize}
+use Rattle.listing.specs.Accumulated.{noBytes, noSize, withByte, withBytes, accumulatedSize}
 use Rattle.listing.proofs.DecimalLaws.{digit-range}
 
 -- ---- one byte
@@ -94,16 +94,6 @@ pub withBytes-append : (line : Line) (a b : List ℕ) → withBytes line (a ++ b
 unfolding withBytes
 withBytes-append line [] b = refl
 withBytes-append line (byte ∷ a) b = withBytes-append (withByte line byte) a b
-
-pub withParts-flatten : (line : Line) (parts : List (List ℕ)) → withParts line parts ≡ withBytes line (flatten parts)
-unfolding withParts withBytes flatten
-withParts-flatten line [] = refl
-withParts-flatten line (part ∷ parts) = withParts-flatten (withBytes line part) parts ∙ sym (withBytes-append line part (flatten parts))
-
--- what is printed for a line read in any parts is the line's text
-pub parts-text : (s : ℕ) (parts : List (List ℕ)) → sizeText s (accumulatedSize (withParts noBytes parts)) ≡ lineText s (flatten parts)
-unfolding lineText
-parts-text s parts = ap (sizeText s) (ap accumulatedSize (withParts-flatten noBytes parts) ∙ size-accumulated (flatten parts))
 
 some-accumulated : (t : Bool) (n v : ℕ) → eqb (cond t (accumulated (suc n) v) noSize .digits) 0 ≡ eqb (suc n) 0
 unfolding accumulated

@@ -28,11 +28,6 @@ unfoldable pub withBytes : Line → List ℕ → Line
 withBytes line [] = line
 withBytes line (byte ∷ bytes) = withBytes (withByte line byte) bytes
 
--- after some parts, one after another
-unfoldable pub withParts : Line → List (List ℕ) → Line
-withParts line [] = line
-withParts line (part ∷ parts) = withParts (withBytes line part) parts
-
 -- the size that it gives
 unfoldable pub accumulatedSize : Line → Size
 accumulatedSize line = cond (leb 1 (line .digits) && leb (line .digits) 9) (Bytes (line .value)) Bad

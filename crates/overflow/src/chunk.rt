@@ -11,11 +11,11 @@ ghost use Rattle.overflow.specs.Steps.{IsPageOf};
 ghost use Rattle.overflow.specs.ValuePages.{valuePage, chunkInto};
 use crate::stored::Written;
 use crate::total::MAX_OVERFLOW_CELL_NODE_POINTERS;
-use crate::total::least;
 use crate::total::max_overflow_value_size;
 use crate::total::total_needed_pages;
 use crate::value_page::Part;
 use crate::value_page::encode_value_page;
+use page::least::least;
 use page::size::PageSize;
 use refusal::Refusal;
 

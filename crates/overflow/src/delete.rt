@@ -19,8 +19,9 @@ pub enum Deleted {
     Refused(Refusal),
 }
 
-// Collects the numbers of the pages of a cell's value. The walk ends with the first page that has value bytes: numbers stand before
-// them only. No room is asked for the bytes, so there is enough for the largest value.
+// Collects the numbers of the pages of a cell's value. The walk ends with the first page that has value bytes: in a chain as the writer
+// makes it no page behind that one has numbers, and a chain that has some there is refused with 17. No room is asked for the bytes, so
+// there is enough for the largest value.
 pub fn delete(page_size: PageSize, cell: &[u8], store: &[u8], numbers: &mut [u32]) -> Deleted
     ensures { λ r. ⌜ effect (deletedOutcome r) (after numbers) ≡ deleteInto (pageBytes «page_size») (before cell) (before store) (before numbers) ⌝ }
 {

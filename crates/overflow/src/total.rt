@@ -1,8 +1,9 @@
 // How many pages a value takes.
 ghost use mathlib.Core.Path.{_≡_};
-ghost use Prim.Native.Nat.{_≤_, min};
+ghost use Prim.Native.Nat.{_≤_};
 ghost use Rattle.page.specs.PageSize.{IsPageSize, pageBytes};
 ghost use Rattle.overflow.specs.Totals.{maxSize, rawPages, totalPages, pageTotal, totalOutcome};
+use page::least::least;
 use page::size::PageSize;
 use refusal::Refusal;
 
@@ -50,7 +51,7 @@ pub(crate) fn max_overflow_value_size(page_size: usize) -> usize
 }
 
 // How many pages of `page_size` bytes a value takes, with the numbers that the cell has no place for.
-pub fn total_needed_pages(page_size: usize, size: usize) -> usize
+pub(crate) fn total_needed_pages(page_size: usize, size: usize) -> usize
     requires { ⌜ IsPageSize «page_size» × (size ≤ maxSize «page_size») ⌝ }
     ensures { λ r. ⌜ r ≡ totalPages «page_size» size ⌝ }
 {
@@ -75,11 +76,4 @@ fn needed_pages(page_size: usize, size: usize) -> usize
 {
     let body = page_size - 4;
     (size + (body - 1)) / body
-}
-
-// The smaller of two numbers.
-pub(crate) fn least(a: usize, b: usize) -> usize
-    ensures { λ r. ⌜ r ≡ min a b ⌝ }
-{
-    if a < b { a } else { b }
 }

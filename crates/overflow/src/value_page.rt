@@ -17,7 +17,7 @@ use page::little_endian::write_numbers;
 use page::little_endian::write_u16;
 
 // The count of numbers.
-pub fn number_count(page: &[u8]) -> u16
+pub(crate) fn number_count(page: &[u8]) -> u16
     requires { ⌜ 4 ≤ length (now page) ⌝ }
     ensures { λ r. ⌜ r ≡ numberCount (before page) ⌝ }
 {
@@ -25,7 +25,7 @@ pub fn number_count(page: &[u8]) -> u16
 }
 
 // The count of value bytes.
-pub fn byte_count(page: &[u8]) -> u16
+pub(crate) fn byte_count(page: &[u8]) -> u16
     requires { ⌜ 4 ≤ length (now page) ⌝ }
     ensures { λ r. ⌜ r ≡ byteCount (before page) ⌝ }
 {
@@ -39,7 +39,7 @@ pub struct Part {
 }
 
 // Makes a whole page at the start of the buffer, of a part of the numbers and a part of the value.
-pub fn encode_value_page(
+pub(crate) fn encode_value_page(
     page_size: usize,
     numbers: &[u32],
     n: Part,

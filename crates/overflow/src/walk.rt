@@ -12,7 +12,7 @@ ghost use Rattle.overflow.specs.Reading.{inStore};
 ghost use Rattle.overflow.specs.Steps.{parseHeader, parsedOutcome, visitInto, leftAfter, Walkable, maxKnown, walkTable, startCounts, walkInto, walkOutcome};
 use crate::page_ref::ValuePageHeader;
 use crate::page_ref::header;
-use crate::total::least;
+use page::least::least;
 use page::little_endian::read_numbers;
 use page::store::page_at;
 use page::store::page_count;

@@ -6,7 +6,7 @@ use native.Mathlib.Nat.{le-of-suc-le-suc, not-suc-le-zero, mul-zero, mul-suc, ze
 use native.Mathlib.Numerals.{add-one}
 use native.Mathlib.Omega.{arith}
 use lib.ListN.{length, getD, take, drop, set, length-append, length-drop, List·getD-append}
-use lib.Seq.{sets, take-suc, length-take-le, getD-take, getD-drop, getD-append-add}
+use lib.Seq.{sets, drop-cons, take-suc, length-take-le, getD-take, getD-drop, getD-append-add}
 use lib.Arith.{mod-mul}
 use Rattle.page.specs.Bytes.{numberAt, bytesOf, numbersAt, bytesOfAll}
 use Rattle.laws.proofs.SetsLaws.{sets-append, sets-snoc}
@@ -90,6 +90,17 @@ numberAt-bytesOf (suc w) n h =
     let small : n / 256 < 256 ^ w = div-lt-iff-lt-mul {k = 256} (omega arith) .1 (rw pow-suc at h) in
     let rest : numberAt w (n % 256 ∷ bytesOf w (n / 256)) 1 ≡ n / 256 = numberAt-append-right w (n % 256 ∷ []) (bytesOf w (n / 256)) 0 ∙ numberAt-bytesOf w (n / 256) small in
     rw (zero-add, rest) (omega arith)
+
+-- and the bytes of a number that was read are those that it was read from
+pub bytesOf-numberAt : (w : ℕ) (b : List ℕ) (i : ℕ) → ((k : ℕ) → getD b k 0 < 256) → i + w ≤ length b → bytesOf w (numberAt w b i) ≡ take w (drop i b)
+unfolding numberAt bytesOf
+bytesOf-numberAt zero b i bytes h = refl
+bytesOf-numberAt (suc w) b i bytes h =
+    let x = getD b i 0 in
+    let n = numberAt w b (i + 1) in
+    let low : (x + 256 * n) % 256 ≡ x = omega (arith, bytes i) in
+    let high : (x + 256 * n) / 256 ≡ n = omega (arith, bytes i) in
+    rw (low, high, drop-cons b i 0 (omega arith), bytesOf-numberAt w b (i + 1) bytes (omega arith), add-one i)
 
 -- ---- several numbers
 

@@ -29,4 +29,4 @@ pageBytes z = 16 + 4 * min (z .0) 16380
 
 -- document 01's
 abbrev pub standard : PageSize
-standard = record { 0 = 1020 }
+standard = record { 0 = (pageSize - 16) / 4 }

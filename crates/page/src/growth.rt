@@ -13,7 +13,7 @@ pub enum Grown {
 // The largest bump: what `grow` makes of it is still a page number.
 pub const MAX_BUMP: u32 = 4294950913;
 
-// A store grows by 8,192 pages at a time; for a page that is a multiple of them, by as many more.
+// The least multiple of 8,192 that leaves room for 8,191 pages from `page` on.
 pub fn grow(page: PageNumber) -> Grown
     ensures { λ r. ⌜ grownOutcome r ≡ grow (page .0) ⌝ }
 {

@@ -4,6 +4,7 @@
 pub mod copy;
 pub mod fill;
 pub mod growth;
+pub mod least;
 pub mod little_endian;
 pub mod number;
 pub mod size;

@@ -17,11 +17,11 @@ pub enum Refusal {
     Entry(u32),
     // 5: the chain has not ended after as many pages as the store has.
     Chain,
-    // 6: the list tables are shorter than the list.
+    // 6: the list tables are shorter than the list, or than the new list.
     Tables,
     // 7: a number or a bump above its limit.
     Limit,
-    // 8: the freed number at this place is 0 or not below the bump.
+    // 8: the freed number at this place is 0, or not below the bump after the numbers handed out.
     Freed(usize),
     // 9: the page buffer or its number list is too short.
     Buffer,
