@@ -6,12 +6,18 @@ use Rattle.refusal.specs.Effect.{Lent, before, after, nothing, effect, called, 
 use Rattle.page.specs.PageSize.{pageBytes}
 use Rattle.page.specs.declared.size.PageSize.{PageSize}
 use Rattle.allocator.specs.OpenSave.{Save, HandedOut, handOut}
+use Rattle.allocator.specs.declared.save.Save.{Save as SaveStruct}
 use Rattle.finisher.specs.Finish.{FinishAnswer, finishRoom, finishLent, finishInto}
 
 -- an open save as a host lends it: its bump, recorded length, P, L and numbers handed out, and the two tables
 abbrev pub openSave : ℕ → ℕ → ℕ → ℕ → ℕ → Lent → Lent → Save
 openSave bump length p l count pages entries =
     record { pageTable = before pages; entryTable = before entries; P = p; L = l; bump = bump; recorded = length; handed = count }
+
+-- the same without the tables, as the code has it
+abbrev pub saveOf : ℕ → ℕ → ℕ → ℕ → ℕ → SaveStruct
+saveOf bump length p l count =
+    record { start = record { bump = bump; pages = p; entries = l }; «open» = record { allocations = record { 0 = count }; length = length } }
 
 -- the number, and how many numbers are handed out and the recorded length after it
 abbrev pub handedValues : HandedOut → List ℕ

@@ -1,5 +1,6 @@
 // The open save: handing out numbers, and finishing.
-ghost use Rattle.calls.specs.Saves.{HandsOut, Finishes};
+ghost use mathlib.Core.Path.{_≡_};
+ghost use Rattle.calls.specs.Saves.{saveOf, HandsOut, Finishes};
 use allocator::allocate::HandedOut;
 use allocator::save::OpenSave;
 use allocator::save::Save;
@@ -7,6 +8,23 @@ use allocator::save::Start;
 use finisher::finish::Finishing;
 use page::number::Allocations;
 use page::size::PageSize;
+
+// An open save from its numbers.
+fn save_of(bump: u32, length: u32, p: u64, l: u64, count: u64) -> Save
+    ensures { λ r. ⌜ r ≡ saveOf bump length p l count ⌝ }
+{
+    Save {
+        start: Start {
+            bump,
+            pages: p as usize,
+            entries: l as usize,
+        },
+        open: OpenSave {
+            allocations: Allocations(count as usize),
+            length,
+        },
+    }
+}
 
 // out: the number, the count of numbers handed out, the recorded length.
 pub fn hand_out(
@@ -22,16 +40,8 @@ pub fn hand_out(
 ) -> u32
     ensures { λ r. ⌜ HandsOut «page_size» bump length p l count pages entries out r ⌝ }
 {
-    let start = Start {
-        bump,
-        pages: p as usize,
-        entries: l as usize,
-    };
-    let open = OpenSave {
-        allocations: Allocations(count as usize),
-        length,
-    };
-    let handed = allocator::open_save::hand_out(page_size, start, open, pages, entries);
+    let save = save_of(bump, length, p, l, count);
+    let handed = allocator::open_save::hand_out(page_size, save.start, save.open, pages, entries);
     let answer = handed.answer;
     match answer {
         HandedOut::Number(number) => {
@@ -61,16 +71,7 @@ pub fn finish(
 ) -> u32
     ensures { λ r. ⌜ Finishes «page_size» bump length p l count pages entries freed buffer numbers out r ⌝ }
 {
-    let start = Start {
-        bump,
-        pages: p as usize,
-        entries: l as usize,
-    };
-    let open = OpenSave {
-        allocations: Allocations(count as usize),
-        length,
-    };
-    let save = Save { start, open };
+    let save = save_of(bump, length, p, l, count);
     match finisher::finish::finish(page_size, save, pages, entries, freed, buffer, numbers) {
         Finishing::Finished(meta) => {
             out[0] = meta.head.0 as u64;

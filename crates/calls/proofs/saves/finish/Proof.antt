@@ -13,19 +13,20 @@ returns c =
     let at-known = c .before .before .before .before in
     let at-lent = at-known .before .before .before .before .before in
     let at-finish = at-lent .before .before .before .before .before in
-    carried finishOutcome (at-finish .finish .ensures) (at-known .meta .given .1) finishValues _
+    carried finishOutcome (rw (at-finish .before .before .before .before .before .save-of .ensures) at (at-finish .finish .ensures)) (at-known .meta .given .1) finishValues _
 
 returns-2 : tie.Need-returns-2
 returns-2 c =
     let at-known = c .before .before .before in
     let at-lent = at-known .before .before .before .before .before in
     let at-finish = at-lent .before .before .before .before .before in
-    reported finishValues _ (at-known .r .given .0 .0) (c .report .ensures .0) (c .report .ensures .1) ∙ carried finishOutcome (at-finish .finish .ensures) (at-known .r .given .1) finishValues _
+    reported finishValues _ (at-known .r .given .0 .0) (c .report .ensures .0) (c .report .ensures .1) ∙ carried finishOutcome (rw (at-finish .before .before .before .before .before .save-of .ensures) at (at-finish .finish .ensures)) (at-known .r .given .1) finishValues _
 
 pub finish-spec : {M : Type 1} → statement M
 finish-spec =
     tie.close
     (tie.spec
+    (search needs)
     (search needs)
     (search needs)
     (search needs)
