@@ -11,7 +11,7 @@ ORACLE := cargo run --quiet --release --manifest-path oracle/Cargo.toml
 
 # Builds the sizing program and runs it: on standard input, or on a sample where that is a terminal.
 run:
-	@rt check sizing </dev/null >/dev/null || { rt check sizing </dev/null; exit 1; }
+	@tools/prove target/bin/sizing check sizing
 	@if [ -t 0 ]; then printf '1\n61381\n0\n7a\n' | target/bin/sizing; else target/bin/sizing; fi
 
 # Everything that a change must pass. The gate comes last, and proves all from nothing.
@@ -24,11 +24,11 @@ test: interface limits sized
 
 # The static library, proved.
 lib:
-	@rt staticlib mopsienna >/dev/null || { rt staticlib mopsienna; exit 1; }
+	@tools/prove $(LIB) staticlib mopsienna
 
 # The operations at any page size, for the comparison and the cuts.
 sized:
-	@rt staticlib sized >/dev/null || { rt staticlib sized; exit 1; }
+	@tools/prove target/staticlib/libsized.a staticlib sized
 
 # The C interface as a C program uses it, through the header.
 interface: lib
