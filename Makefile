@@ -6,8 +6,9 @@ export NOMT_SRC
 
 LIB := target/staticlib/libmopsienna.a
 ORACLE := cargo run --quiet --release --manifest-path oracle/Cargo.toml
+CC11 := cc -std=c11 -Wall -Wextra -Werror -O1 -Iinclude
 
-.PHONY: run test lib sized interface limits memcheck compare record cuts bench count times
+.PHONY: run test lib sized interface limits example memcheck compare record cuts bench count times
 
 # Builds the sizing program and runs it: on standard input, or on a sample where that is a terminal.
 run:
@@ -15,7 +16,7 @@ run:
 	@if [ -t 0 ]; then printf '1\n61381\n0\n7a\n' | target/bin/sizing; else target/bin/sizing; fi
 
 # Everything that a change must pass. The gate comes last, and proves all from nothing.
-test: interface limits sized
+test: interface limits example sized
 	@if [ -d "$(NOMT_SRC)" ]; then $(ORACLE) -p compare -- --short && $(ORACLE) -p compare -- --self-test; \
 	else echo "comparison with the Rust: skipped, there is no $(NOMT_SRC)"; fi
 	@if command -v cargo >/dev/null; then $(ORACLE) -p cuts -- --short && $(ORACLE) -p cuts -- --self-test; \
@@ -32,18 +33,24 @@ sized:
 
 # The C interface as a C program uses it, through the header.
 interface: lib
-	@cc -std=c11 -Wall -Wextra -Werror -O1 -Iinclude -o target/interface tests/interface.c $(LIB)
+	@$(CC11) -o target/interface tests/interface.c $(LIB)
 	@target/interface
 
 # The limits: the largest bump, value and stores, under a small stack.
 limits: lib
-	@cc -std=c11 -Wall -Wextra -Werror -O1 -pthread -Iinclude -o target/limits tests/limits.c $(LIB)
+	@$(CC11) -pthread -o target/limits tests/limits.c $(LIB)
 	@target/limits
 
-# Both C programs under valgrind, which must have nothing to report. It maps no store of 1 TiB; here it has 16 GiB.
-memcheck: interface limits
+# The first program: saves on a store in memory, the last of which is cut.
+example: lib
+	@$(CC11) -o target/save examples/save.c $(LIB)
+	@target/save
+
+# The C programs under valgrind, which must have nothing to report. It maps no store of 1 TiB; here it has 16 GiB.
+memcheck: interface limits example
 	@valgrind --quiet --error-exitcode=1 target/interface
 	@valgrind --quiet --error-exitcode=1 target/limits 22
+	@valgrind --quiet --error-exitcode=1 target/save
 
 # The library beside the Rust, at length.
 compare: lib sized
