@@ -11,7 +11,8 @@
  * A page has 4,096 bytes and a number of 32 bits; number 0 is no page.
  *
  * A slice is a pointer and a length. The pointer is not null, also where the length is 0, and is
- * aligned for its type; slices that are written overlap no other.
+ * aligned for its type; slices that are written overlap no other. Below, [0 .. n] are the places from
+ * 0 to n - 1.
  *
  * Nothing is allocated, no file is touched, no function keeps a pointer. Calls on different memory
  * may run at the same time.
@@ -245,10 +246,15 @@ uint32_t mopsienna_read_value(const uint8_t *cell, size_t cell_len, const uint8_
 
 /*
  * Collects the numbers of the pages of a cell's value, so that they can be freed. They are found as
- * in mopsienna_read_value, but the walk ends with the first page that has value bytes: those behind it
- * have no numbers.
+ * in mopsienna_read_value, but the walk ends with the first page that has value bytes: where
+ * mopsienna_write_value_page made the pages, those behind it have no numbers. A value that
+ * mopsienna_read_value reads, and that has numbers behind that page, gets 17 here.
  *
  *   out[0]  how many numbers were found, which is the total: numbers[0 .. total] holds them
+ *
+ * The other places of `numbers` stay as they were. Refusals 14 to 17 leave in it the first `total` of
+ * the numbers that were found before, and none from the page that was refused; the other refusals
+ * leave it as it was.
  *
  * Refusals: those of mopsienna_read_value, without 18 and without a value buffer in 13.
  */

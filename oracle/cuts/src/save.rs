@@ -199,10 +199,10 @@ impl<'a> Open<'a> {
         self.freed.push(number);
     }
 
-    /// Finishes, at first with too little room, which is refused and changes nothing.
+    /// Finishes, at first with too little room, which is refused and changes nothing; then with the room
+    /// that docs/HOST.md gives for every save.
     fn finish(mut self, values: Vec<Value>) -> Finished {
         let size = self.form.page_size();
-        let room = self.lent.pages.len() + self.freed.len() + 8;
         let before = self.lent.clone();
         let refused = self.form.finish(&self.save, &self.freed, &mut self.lent);
         let enough = refused.number == 0;
@@ -213,12 +213,14 @@ impl<'a> Open<'a> {
         let reply = if enough {
             refused
         } else {
-            self.lent.pages.resize(room, FILLER);
-            self.lent
-                .entries
-                .resize(self.lent.entries.len() + self.freed.len() + room, FILLER);
-            self.lent.buffer.resize(size * room, 0xA5);
-            self.lent.numbers.resize(room, FILLER);
+            let on_a_page = (size - 6) / 4;
+            let pushed = self.freed.len() + self.save.pages as usize;
+            let entries = self.save.entries as usize + pushed;
+            let written = pushed / on_a_page + 2;
+            self.lent.pages.resize(entries / on_a_page + 1, FILLER);
+            self.lent.entries.resize(entries, FILLER);
+            self.lent.buffer.resize(size * written, 0xA5);
+            self.lent.numbers.resize(written, FILLER);
             self.form.finish(&self.save, &self.freed, &mut self.lent)
         };
         assert_eq!(reply.number, 0, "a finish with room succeeds");
