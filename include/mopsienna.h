@@ -34,9 +34,9 @@ enum {
     MOPSIENNA_COUNT = 3,       /* the count on a list page does not fit its place */
     MOPSIENNA_ENTRY = 4,       /* a list entry is 0 or at or past the page count */
     MOPSIENNA_CHAIN = 5,       /* a list that has not ended after as many pages as the store has */
-    MOPSIENNA_TABLES = 6,      /* list tables shorter than the list */
+    MOPSIENNA_TABLES = 6,      /* list tables shorter than the list, or than the new list */
     MOPSIENNA_LIMIT = 7,       /* a number or a bump above its limit */
-    MOPSIENNA_FREED = 8,       /* a freed number that is 0 or not below the bump */
+    MOPSIENNA_FREED = 8,       /* a freed number that is 0, or not below the bump as it has risen */
     MOPSIENNA_BUFFER = 9,      /* a page buffer or number list that is too short */
     MOPSIENNA_SIZE = 10,       /* a size of 0, or above 2^29 */
     MOPSIENNA_INDEX = 11,      /* not as many numbers as the total, or a page index not below it */
@@ -95,7 +95,7 @@ uint32_t mopsienna_read_list(const uint8_t *store, size_t store_len, uint32_t he
  * The next two functions work on an open save. It is
  *
  *   bump     the next page number past the store, 1 to MOPSIENNA_MAX_BUMP
- *   length   the store's recorded length, in pages
+ *   length   the store's recorded length, in pages: what the host's file has, which is not looked at
  *   P, L     the pages and the entries of the list, as mopsienna_read_list or the last
  *            mopsienna_finish left them in the tables `pages` and `entries`
  *   count    how many numbers this save was handed out: 0 at its start
