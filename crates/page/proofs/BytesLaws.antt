@@ -21,6 +21,10 @@ numberAt-add (suc v) w b i =
     let e : i + 1 + v ≡ i + suc v = omega arith in
     rw (suc-add, numberAt-add v w b (i + 1), pow-suc, e) (omega arith)
 
+-- a number of 2w bytes is read as its lower half and then its upper
+pub read-halves : (w : ℕ) (b : List ℕ) (i lower upper : ℕ) → lower ≡ numberAt w b i → upper ≡ numberAt w b (i + w) → lower + 256 ^ w * upper ≡ numberAt (w + w) b i
+read-halves w b i lower upper e f = rw (e, f, numberAt-add w w b i)
+
 -- what is read depends only on the bytes in use
 pub numberAt-same : (w : ℕ) (a b : List ℕ) (i j : ℕ) → ((k : ℕ) → k < w → getD a (i + k) 0 ≡ getD b (j + k) 0) → numberAt w a i ≡ numberAt w b j
 unfolding numberAt

@@ -1,4 +1,4 @@
--- `write_u32` meets its contract: the lower 2 bytes, then the upper.
+-- `write_u32` meets its contract, by its two halves.
 -- Assumes nothing.
 use Rattle.page.proofs.BytesLaws.{written-halves}
 use borrow.Author.Needs.{needs}
@@ -9,13 +9,4 @@ returns : tie.Need-returns
 returns c = written-halves 2 _ _ _ _ _ (c .before .before .before .before .before .before .write-u16 .ensures) (c .before .before .write-u162 .ensures)
 
 pub write-u32-spec : {M : Type 1} → statement M
-write-u32-spec =
-    tie.close
-    (tie.spec
-    (search needs)
-    (search needs)
-    (search needs)
-    (search needs)
-    (search needs)
-    (search needs)
-    returns)
+write-u32-spec = tie.close (tie.spec (search needs) (search needs) (search needs) (search needs) (search needs) (search needs) returns)
