@@ -19,19 +19,18 @@ use Rattle.page.specs.Growth.{grown}
 use Rattle.page.proofs.GrowthLaws.{grown-covers}
 use Rattle.free_list.specs.Shape.{FreeList}
 use Rattle.free_list.specs.Reading.{ListSize, ListTables, listIn}
-use Rattle.overflow.specs.Totals.{totalPages}
-use Rattle.overflow.specs.Cells.{hashSize, cellBytes, decodeCellInto}
-use Rattle.overflow.specs.Kept.{Kept, cellFor}
+use Rattle.overflow.specs.Cells.{decodeCellInto}
+use Rattle.overflow.specs.Kept.{cellFor}
 use Rattle.overflow.proofs.TotalsLaws.{total-positive, total-enough}
 use Rattle.overflow.proofs.CellsLaws.{count-encoded}
 use Rattle.overflow.proofs.ReadBackLaws.{decode-back, reads-back}
-use Rattle.allocator.specs.OpenSave.{Save, bumped, HandedOut, handOut, Counters, counters, countUp}
+use Rattle.allocator.specs.OpenSave.{Save, bumped, HandedOut, handOut}
 use Rattle.finisher.specs.Finish.{Finished, FinishAnswer, finishAnswer, finish, FinishRoom, FinishLent, bytesOfPages, lentPages, stored, finishInto, roomIn}
 use Rattle.finisher.proofs.FinishLaws.{Succeeds, succeeds, bump-raised}
 use Rattle.finisher.proofs.ReadBackLaws.{good-freed}
-use Rattle.rollback.specs.Calls.{inFront, openOn, Run, afterHandOut, afterFinish, run}
-use Rattle.rollback.specs.Rollback.{GetsValue, ToWrite, valuePage as valuePageAt, listPage as listPageAt}
-use Rattle.rollback.specs.CodeCalls.{CodeCall, handOutMade, finishMade, ifAnswered, Follows, callOf, numbersTold, FinishTold, toldWith, finishTold, pagesLeft, Tells, FinishIs, IsRun, CodeRuns, ReadOpens, FromCode, valuePage, listPage, CodeRollback}
+use Rattle.rollback.specs.Calls.{inFront, openOn, Call, handOutCall, finishCall, Run, afterHandOut, afterFinish, run}
+use Rattle.rollback.specs.Rollback.{ToWrite, valuePage as valuePageAt, listPage as listPageAt}
+use Rattle.rollback.specs.CodeCalls.{CodeCall, handOutMade, finishMade, OpenOn, ifAnswered, Follows, numbersTold, FinishTold, toldWith, finishTold, pagesLeft, Tells, FinishIs, IsRun, CodeRuns, ReadOpens, WrittenReads, FromCode, valuePage, listPage, CodeRollback}
 use Rattle.rollback.proofs.WritesLaws.{written-whole}
 use Rattle.rollback.proofs.RollbackLaws.{rollback}
 
@@ -99,7 +98,11 @@ module _ {s : ℕ} (size : IsPageSize s) (v : Save) (freed : List ℕ) (room : F
   abbrev before : FinishLent
   before = record { tables = record { pages = v .pageTable; entries = v .entryTable }; room = room }
 
-  -- the recorded length is past the bump, and so past all numbers freed
+  -- what the call leaves, by what comes of it
+  abbrev leftBy : Outcome Finished → Effect FinishAnswer FinishLent
+  leftBy o = leaves (finishAnswer v) (stored before) before o
+
+  -- the recorded length is not below the bump, and so past all numbers freed
   freed-covered : {f : Finished} → Succeeds s v freed f → (n : ℕ) → List·Memᴰ n freed → n < finishAnswer v f .recorded
   unfolding finishAnswer
   freed-covered {f} done n m =
@@ -124,55 +127,60 @@ module _ {s : ℕ} (size : IsPageSize s) (v : Save) (freed : List ℕ) (room : F
 -- ---- any sequence of calls
 
 module _ {s : ℕ} (size : IsPageSize s) (l : FreeList) (bump : ℕ) where
-  -- what they come to, from these counters
-  abbrev ran : Counters → List CodeCall → Run
-  ran c made = run s l bump c (map callOf made)
+  -- some calls of the statement that these are
+  abbrev Runs : ℕ → List CodeCall → Type 0
+  Runs n made = (calls : List Call) × IsRun s made (run s l bump n calls)
 
   -- the claim for the calls behind the first
   abbrev Rest : List CodeCall → Type 0
-  Rest made = (c : Counters) → Follows s l bump c made → IsRun s made (ran c made)
+  Rest made = (n : ℕ) → Follows s l bump n made → Runs n made
 
-  after-hand-out : (made : List CodeCall) → Rest made → (c : Counters) (behind : ListTables) (o : Outcome HandedOut) (e : Effect ℕ Counters)
-      → e ≡ leaves (λ (h : HandedOut). h .number) (λ (h : HandedOut). counters (h .save)) c o → Follows s l bump (e .lent) made
-      → IsRun s (handOutMade behind e ∷ made) (afterHandOut (λ (next : Counters). ran next made) (ran c made) o)
-  unfolding numbersTold finishTold
-  after-hand-out made rest c behind (answer h) e q =
-      subst
-      (λ (x : Effect ℕ Counters). Follows s l bump (x .lent) made → IsRun s (handOutMade behind x ∷ made) (afterHandOut (λ (next : Counters). ran next made) (ran c made) (answer h)))
-      (sym q)
-      (λ follows. let r = rest (counters (h .save)) follows in record { numbers = ap (λ (ns : List ℕ). h .number ∷ ns) (r .numbers); finish = r .finish })
-  after-hand-out made rest c behind (refused n vs) e q =
-      subst (λ (x : Effect ℕ Counters). Follows s l bump (x .lent) made → IsRun s (handOutMade behind x ∷ made) (ran c made)) (sym q)
-      (λ follows. let r = rest c follows in record { numbers = r .numbers; finish = r .finish })
+  after-hand-out : (made : List CodeCall) → Rest made → (n : ℕ) (v : Save) (o : Outcome HandedOut) → o ≡ handOut s v
+      → ifAnswered (λ (h : HandedOut). OpenOn l bump n v × Follows s l bump (h .save .handed) made) (Follows s l bump n made) o
+      → Runs n (handOutMade v o ∷ made)
+  unfolding run numbersTold finishTold
+  after-hand-out made rest n v (answer h) e ((own, given), follows) =
+      let (calls, is) = rest (h .save .handed) follows in
+      let out : handOut s (openOn l bump n own) ≡ answer h = ap (handOut s) (sym given) ∙ sym e in (
+        handOutCall own ∷ calls,
+        subst (λ (x : Outcome HandedOut). IsRun s (handOutMade v (answer h) ∷ made) (afterHandOut (λ (m : ℕ). run s l bump m calls) (run s l bump n calls) x)) (sym out)
+            (record { numbers = ap (λ (ns : List ℕ). h .number ∷ ns) (is .numbers); finish = is .finish }),
+      )
+  after-hand-out made rest n v (refused number vs) e follows =
+      let (calls, is) = rest n follows in
+      (calls, record { numbers = is .numbers; finish = is .finish })
 
-  after-finish : (made : List CodeCall) → Rest made → (c : Counters) (behind : ListTables) (freed : List ℕ) (room : FinishRoom) (o : Outcome Finished)
-      → finish s (openOn l bump c behind) freed (roomIn room) ≡ o → (e : Effect FinishAnswer FinishLent)
-      → e ≡ leaves (finishAnswer (openOn l bump c behind)) (stored (before size (openOn l bump c behind) freed room)) (before size (openOn l bump c behind) freed room) o
-      → ifAnswered (made ≡ []) (Follows s l bump c made) (e .outcome) → IsRun s (finishMade behind freed room e ∷ made) (afterFinish freed (ran c made) o)
-  unfolding numbersTold finishTold
-  after-finish made rest c behind freed room (answer f) done e q =
+  after-finish : (made : List CodeCall) → Rest made → (n : ℕ) (v : Save) (freed : List ℕ) (room : FinishRoom) (o : Outcome Finished) → finish s v freed (roomIn room) ≡ o
+      → (e : Effect FinishAnswer FinishLent) → e ≡ leftBy size v freed room o
+      → ifAnswered (λ (a : FinishAnswer). OpenOn l bump n v × (made ≡ [])) (Follows s l bump n made) (e .outcome) → Runs n (finishMade v freed room e ∷ made)
+  unfolding run numbersTold finishTold
+  after-finish made rest n v freed room (answer f) done e q =
       subst
-      (λ (x : Effect FinishAnswer FinishLent). ifAnswered (made ≡ []) (Follows s l bump c made) (x .outcome) → IsRun s (finishMade behind freed room x ∷ made) (afterFinish freed (ran c made) (answer f)))
+      (λ (x : Effect FinishAnswer FinishLent). ifAnswered (λ (a : FinishAnswer). OpenOn l bump n v × (made ≡ [])) (Follows s l bump n made) (x .outcome) → Runs n (finishMade v freed room x ∷ made))
       (sym q)
-      (λ ends. record {
-        numbers = sym (ap numbersTold ends);
-        finish = (ap finishTold ends, refl, f, refl, stored-tells size (openOn l bump c behind) freed room f done);
-      })
-  after-finish made rest c behind freed room (refused n vs) done e q =
+      answered
+    where
+      answered : OpenOn l bump n v × (made ≡ []) → Runs n (finishMade v freed room (leftBy size v freed room (answer f)) ∷ made)
+      answered ((own, given), ends) =
+          let out : finish s (openOn l bump n own) freed (roomIn room) ≡ answer f = ap (λ (w : Save). finish s w freed (roomIn room)) (sym given) ∙ done in (
+            finishCall own freed (roomIn room) ∷ [],
+            subst (λ (x : Outcome Finished). IsRun s (finishMade v freed room (leftBy size v freed room (answer f)) ∷ made) (afterFinish freed (run s l bump n []) x)) (sym out)
+                (record { numbers = sym (ap numbersTold ends); finish = (ap finishTold ends, refl, f, refl, stored-tells size v freed room f done) }),
+          )
+  after-finish made rest n v freed room (refused number vs) done e q =
       subst
-      (λ (x : Effect FinishAnswer FinishLent). ifAnswered (made ≡ []) (Follows s l bump c made) (x .outcome) → IsRun s (finishMade behind freed room x ∷ made) (ran c made))
+      (λ (x : Effect FinishAnswer FinishLent). ifAnswered (λ (a : FinishAnswer). OpenOn l bump n v × (made ≡ [])) (Follows s l bump n made) (x .outcome) → Runs n (finishMade v freed room x ∷ made))
       (sym q)
-      (λ follows. let r = rest c follows in record { numbers = r .numbers; finish = r .finish })
+      (λ follows. let (calls, is) = rest n follows in (calls, record { numbers = is .numbers; finish = is .finish }))
 
   runs : (made : List CodeCall) → Rest made
-  unfolding run numbersTold finishTold countUp finishInto
-  runs [] c follows = record { numbers = refl; finish = refl }
-  runs (handOutMade behind e ∷ made) c follows = after-hand-out made (runs made) c behind (handOut s (openOn l bump c behind)) e (follows .0) (follows .1)
-  runs (finishMade behind freed room e ∷ made) c follows =
-      after-finish made (runs made) c behind freed room (finish s (openOn l bump c behind) freed (roomIn room)) refl e (follows .0) (follows .1)
+  unfolding run numbersTold finishTold finishInto
+  runs [] n follows = ([], record { numbers = refl; finish = refl })
+  runs (handOutMade v o ∷ made) n follows = after-hand-out made (runs made) n v o (follows .0) (follows .1)
+  runs (finishMade v freed room e ∷ made) n follows = after-finish made (runs made) n v freed room (finish s v freed (roomIn room)) refl e (follows .0) (follows .1)
 
 pub code-runs : {s : ℕ} → IsPageSize s → CodeRuns s
-code-runs size l bump c made follows = runs size l bump made c follows
+code-runs size l bump n made follows = runs size l bump made n follows
 
 -- ---- demand 3
 
@@ -188,11 +196,11 @@ to-write {s} {made} {r} {w} is (listPage t m k) = go (finishTold made) (is .fini
         listPageAt f (subst (List·Memᴰ f) (sym e) (List·Memᴰ·head refl)) (subst (List·Memᴰ w) (ap (pagesLeft s) same ∙ tells .writes) k)
 
 pub code-rollback : {s : ℕ} → IsPageSize s → CodeRollback s
-code-rollback size a good c made follows extra writes allowed =
-    let is = code-runs size (a .list) (a .bump) c made follows in
+code-rollback size a good n made follows extra writes allowed =
+    let (calls, is) = code-runs size (a .list) (a .bump) n made follows in
     rollback size a _ good (record {
-      start = c;
-      calls = map callOf made;
+      start = n;
+      calls = calls;
       extra = extra;
       writes = writes;
       allowed = λ w m. to-write is (allowed w m);
@@ -201,11 +209,10 @@ code-rollback size a good c made follows extra writes allowed =
 
 -- ---- values
 
--- A value whose pages, as its writer makes them, stand in the store at their numbers is one that its reader gets.
-pub written-value : {s : ℕ} → IsPageSize s → {store value numbers : List ℕ} → Kept s store (totalPages s (length value)) value numbers
-    → (hash : List ℕ) → length hash ≡ hashSize → GetsValue s store (record { cell = cellBytes (cellFor value hash numbers); hash = hash; numbers = numbers; bytes = value })
+-- what the writer wrote is read
+pub written-value : {s : ℕ} → IsPageSize s → WrittenReads s
 unfolding decodeCellInto
-written-value {s} size {store} {value} {numbers} kept hash long =
+written-value {s} size store value numbers kept hash long =
     let decoded = decode-back size kept (total-enough (length value) size) hash long (total-positive (length value) size (kept .size)) in
     record {
       cell = λ h. rw (decoded, count-encoded s (cellFor value hash numbers) (kept .few) long);

@@ -15,11 +15,10 @@ use Rattle.laws.proofs.Tests.{cond-cases}
 use Rattle.refusal.proofs.OutcomeLaws.{unanswer, check-answer}
 use Rattle.page.specs.Growth.{maxBump}
 use Rattle.free_list.specs.Shape.{FreeList}
-use Rattle.free_list.specs.Reading.{ListTables}
-use Rattle.allocator.specs.OpenSave.{Save, listOf, bumped, stateFits, nextNumber, nextSave, HandedOut, handOut, Counters, counters}
+use Rattle.allocator.specs.OpenSave.{Save, listOf, bumped, stateFits, nextNumber, nextSave, HandedOut, handOut}
 use Rattle.finisher.specs.Finish.{Finished, finish, RoomLent}
 use Rattle.finisher.proofs.FreshLaws.{Between, between-mem}
-use Rattle.rollback.specs.Calls.{openOn, Call, handOutCall, finishCall, Run, afterHandOut, afterFinish, run}
+use Rattle.rollback.specs.Calls.{Own, openOn, Call, handOutCall, finishCall, Run, afterHandOut, afterFinish, run}
 
 -- a number that is free at the start of the save: an entry of the first list, or one past its bump
 abbrev pub Free : FreeList → ℕ → ℕ → Type 0
@@ -46,10 +45,10 @@ pub record OpenedOn (l : FreeList) (bump : ℕ) (v : Save) : Type 0 where
 
 module _ (s : ℕ) (l : FreeList) (bump : ℕ) where
   -- so is each on which a call is made
-  pub opened-on : (c : Counters) (behind : ListTables) → OpenedOn l bump (openOn l bump c behind)
-  opened-on c behind =
-      let p = take-at (l .pages) (behind .pages) (length (l .pages)) refl in
-      let q = take-at (l .entries) (behind .entries) (length (l .entries)) refl in
+  pub opened-on : (n : ℕ) (own : Own) → OpenedOn l bump (openOn l bump n own)
+  opened-on n own =
+      let p = take-at (l .pages) (own .behind .pages) (length (l .pages)) refl in
+      let q = take-at (l .entries) (own .behind .entries) (length (l .entries)) refl in
       record { list = λ i. record { pages = p i; entries = q i }; P = refl; L = refl; start = refl }
 
   -- the next number is handed out with one more in the count
@@ -84,18 +83,18 @@ module _ (s : ℕ) (l : FreeList) (bump : ℕ) where
   Finishes v r = (f : Finished) → List·Memᴰ f (r .finished) → (room : RoomLent) × (finish s v (r .freed) room ≡ answer f)
 
   -- what the calls leave: the last state of the save, which the numbers handed out and the finish are of
-  pub record Ran (c : Counters) (r : Run) : Type 0 where
+  pub record Ran (n : ℕ) (r : Run) : Type 0 where
     pub last : Save
     pub of : OpenedOn l bump last
-    pub later : c .handed ≤ last .handed
-    pub numbers : (n : ℕ) → List·Memᴰ n (r .numbers) → Handed l bump (last .handed) n
+    pub later : n ≤ last .handed
+    pub numbers : (x : ℕ) → List·Memᴰ x (r .numbers) → Handed l bump (last .handed) x
     pub finishes : Finishes last r
 
-  after-hand-out : (v : Save) (next : Counters → Run) (stay : Run) (o : Outcome HandedOut) → OpenedOn l bump v → handOut s v ≡ o
-      → ((c : Counters) → Ran c (next c)) → Ran (counters v) stay → Ran (counters v) (afterHandOut next stay o)
+  after-hand-out : (v : Save) (next : ℕ → Run) (stay : Run) (o : Outcome HandedOut) → OpenedOn l bump v → handOut s v ≡ o
+      → ((m : ℕ) → Ran m (next m)) → Ran (v .handed) stay → Ran (v .handed) (afterHandOut next stay o)
   after-hand-out v next stay (answer a) o e more r =
       let n = hand-out v a o e in
-      let q = more (counters (a .save)) in
+      let q = more (a .save .handed) in
       record {
         last = q .last;
         of = q .of;
@@ -104,13 +103,14 @@ module _ (s : ℕ) (l : FreeList) (bump : ℕ) where
         finishes = q .finishes;
       }
     where
-      go : (m : ℕ) → Next v a → (q : Ran (counters (a .save)) (next (counters (a .save)))) → (m ≡ a .number) ⊎ List·Memᴰ m (next (counters (a .save)) .numbers) → Handed l bump (q .last .handed) m
+      go : (m : ℕ) → Next v a → (q : Ran (a .save .handed) (next (a .save .handed))) → (m ≡ a .number) ⊎ List·Memᴰ m (next (a .save .handed) .numbers)
+          → Handed l bump (q .last .handed) m
       go m n q (inl e) = rw e (handed-more l bump (suc (v .handed)) (q .last .handed) (a .number) (omega (arith, n .count, q .later)) (n .number))
       go m n q (inr h) = q .numbers m h
   after-hand-out v next stay (refused n vs) o e more r = r
 
   after-finish : (v : Save) (freed : List ℕ) (room : RoomLent) (stay : Run) (o : Outcome Finished) → OpenedOn l bump v
-      → finish s v freed room ≡ o → Ran (counters v) stay → Ran (counters v) (afterFinish freed stay o)
+      → finish s v freed room ≡ o → Ran (v .handed) stay → Ran (v .handed) (afterFinish freed stay o)
   after-finish v freed room stay (answer f) o e r =
       record { last = v; of = o; later = omega arith; numbers = λ n m. absurd (List·Memᴰ·not-nil m); finishes = λ g m. (room, e ∙ ap answer (sym (only m))) }
     where
@@ -119,20 +119,20 @@ module _ (s : ℕ) (l : FreeList) (bump : ℕ) where
   after-finish v freed room stay (refused n vs) o e r = r
 
   -- every list of calls
-  pub run-ran : (calls : List Call) (c : Counters) → Ran c (run s l bump c calls)
+  pub run-ran : (calls : List Call) (n : ℕ) → Ran n (run s l bump n calls)
   unfolding run
-  run-ran [] c =
-      let v = openOn l bump c (record { pages = []; entries = [] }) in
+  run-ran [] n =
+      let own : Own = record { recorded = 0; behind = record { pages = []; entries = [] } } in
       record {
-        last = v;
-        of = opened-on c (record { pages = []; entries = [] });
+        last = openOn l bump n own;
+        of = opened-on n own;
         later = omega arith;
-        numbers = λ n m. absurd (List·Memᴰ·not-nil m);
+        numbers = λ x m. absurd (List·Memᴰ·not-nil m);
         finishes = λ f m. absurd (List·Memᴰ·not-nil m);
       }
-  run-ran (handOutCall behind ∷ calls) c =
-      let v = openOn l bump c behind in
-      after-hand-out v (λ (next : Counters). run s l bump next calls) (run s l bump c calls) (handOut s v) (opened-on c behind) refl (λ d. run-ran calls d) (run-ran calls c)
-  run-ran (finishCall behind freed room ∷ calls) c =
-      let v = openOn l bump c behind in
-      after-finish v freed room (run s l bump c calls) (finish s v freed room) (opened-on c behind) refl (run-ran calls c)
+  run-ran (handOutCall own ∷ calls) n =
+      let v = openOn l bump n own in
+      after-hand-out v (λ (m : ℕ). run s l bump m calls) (run s l bump n calls) (handOut s v) (opened-on n own) refl (λ m. run-ran calls m) (run-ran calls n)
+  run-ran (finishCall own freed room ∷ calls) n =
+      let v = openOn l bump n own in
+      after-finish v freed room (run s l bump n calls) (finish s v freed room) (opened-on n own) refl (run-ran calls n)

@@ -30,7 +30,7 @@ use Rattle.finisher.specs.Finish.{newList, encodedPage, encodedPages, Finished,
 use Rattle.rollback.specs.Calls.{Run, run}
 use Rattle.rollback.specs.Rollback.{Value, GetsValue, Good, ToWrite, valuePage as anyPage, listPage, Cut}
 use Rattle.rollback.specs.Seasons.{Saved, Season, onward}
-use Rattle.rollback.specs.Witness.{small, list, hash, valueAt, listPageAt, valuePageAt, start, bytes, store, first, newBytes, calls, writes, second, cutCalls, cutWrites, cutStore, Witnessed}
+use Rattle.rollback.specs.Witness.{small, list, hash, valueAt, listPageAt, valuePageAt, bytes, store, first, newBytes, calls, writes, second, cutCalls, cutWrites, cutStore, Witnessed}
 use Rattle.rollback.proofs.ReadersLaws.{gets-list}
 use Rattle.rollback.proofs.BridgeLaws.{written-value}
 
@@ -102,7 +102,7 @@ unfolding first allIn
 good =
     record {
       reads = gets-list small store 1 _ reads;
-      each = of-one (valueAt 4 bytes) (GetsValue small store) (written-value size kept hash refl);
+      each = of-one (valueAt 4 bytes) (GetsValue small store) (written-value size store bytes (4 ∷ []) kept hash refl);
       different = (absent 1 (2 ∷ 3 ∷ []) refl, (absent 2 (3 ∷ []) refl, (absent 3 [] refl, tt)));
       below = below 5 (1 ∷ 2 ∷ 3 ∷ []) refl;
       values-below = of-one (valueAt 4 bytes) (λ (x : Value). (n : ℕ) → List·Memᴰ n (x .numbers) → n < 5) (below 5 (4 ∷ []) refl);
@@ -120,7 +120,7 @@ result = record { list = list (2 ∷ []) (4 ∷ 1 ∷ []); bump = 5; written = l
 abbrev made : Run
 made = record { numbers = 3 ∷ []; finished = result ∷ []; freed = 4 ∷ [] }
 
-made-so : run small (first .list) (first .bump) start calls ≡ made
+made-so : run small (first .list) (first .bump) 0 calls ≡ made
 unfolding first run handOut stateFits isShape isFragmented capacity nextNumber nextRecorded grown roundedUp firstBad newList entriesBelow entriesOn encodedPage encodedPages carriedOut finishList finished finish pagesFor room pagesAfter pushedAfter firstPlan nextPlan enoughRoom planOf
 made-so = refl
 
@@ -128,7 +128,7 @@ written : Cut small first (second .store)
 unfolding first second encodeValuePage bytesOf bytesOfAll
 written =
     record {
-      start = start;
+      start = 0;
       calls = calls;
       extra = [];
       writes = writes;
@@ -151,7 +151,7 @@ saved-made =
       freed = of-one 4 (λ (n : ℕ). (n < pageCount small (second .store)) × (List·Memᴰ n (1 ∷ []) → ⊥) × (List·Memᴰ n (2 ∷ 3 ∷ []) → List·Memᴰ n (3 ∷ [])))
           (omega arith, absent 4 (1 ∷ []) refl, λ m. absurd (absent 4 (2 ∷ 3 ∷ []) refl m));
       values = λ x m. inr (of-one (valueAt 3 newBytes) (λ (y : Value). GetsValue small (second .store) y × ((n : ℕ) → List·Memᴰ n (y .numbers) → List·Memᴰ n (3 ∷ [])))
-          (written-value size new-kept hash refl, λ n k. k) x m);
+          (written-value size (second .store) newBytes (3 ∷ []) new-kept hash refl, λ n k. k) x m);
       not-freed = of-one (valueAt 3 newBytes) (λ (x : Value). (n : ℕ) → List·Memᴰ n (x .numbers) → List·Memᴰ n (4 ∷ []) → ⊥)
           (λ n m k. omega (arith, List·Memᴰ·eq-of-singleton m, List·Memᴰ·eq-of-singleton k));
     }
@@ -165,7 +165,7 @@ next = onward written result (subst (λ (r : Run). Saved small first second r re
 abbrev cutMade : Run
 cutMade = record { numbers = 1 ∷ 4 ∷ []; finished = []; freed = [] }
 
-cut-made-so : run small (second .list) (second .bump) start cutCalls ≡ cutMade
+cut-made-so : run small (second .list) (second .bump) 0 cutCalls ≡ cutMade
 unfolding second run handOut stateFits isShape capacity nextNumber nextRecorded grown roundedUp
 cut-made-so = refl
 
@@ -173,7 +173,7 @@ cut : Cut small second cutStore
 unfolding second cutStore encodeValuePage bytesOf bytesOfAll
 cut =
     record {
-      start = start;
+      start = 0;
       calls = cutCalls;
       extra = _;
       writes = cutWrites;

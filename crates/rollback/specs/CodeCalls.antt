@@ -1,5 +1,5 @@
--- Calls of the code, each with what was lent to it and what it left, by the definitions that the contracts of `hand_out` and `finish`
--- cite; and the claim that any sequence of them, refused ones too, is one of the statement.
+-- Calls of the code, each with what was lent to it and what it left, by the definitions that the contracts of `mopsienna_hand_out` and
+-- `mopsienna_finish` cite; and the claim that any sequence of them, refused ones too, is one of the statement.
 use Prim.Native.Nat.{ℕ, _<_}
 use mathlib.Core.Path.{_≡_}
 use mathlib.Core.Bool.{true, false}
@@ -9,33 +9,38 @@ use Rattle.refusal.specs.Outcome.{Outcome, answer, refused}
 use Rattle.refusal.specs.Effect.{Effect}
 use Rattle.page.specs.Pages.{Write, writePages}
 use Rattle.free_list.specs.Shape.{FreeList, headOf}
-use Rattle.free_list.specs.Reading.{sizeOf, ListTables, hasRoom, readListInto}
-use Rattle.allocator.specs.OpenSave.{Counters, countUp}
-use Rattle.finisher.specs.Finish.{Finished, FinishAnswer, FinishRoom, roomIn, FinishLent, lentPages, finishInto}
-use Rattle.rollback.specs.Calls.{inFront, openOn, Call, handOutCall, finishCall, Run, run}
-use Rattle.rollback.specs.Rollback.{GetsList, State, Good, StillReads}
+use Rattle.free_list.specs.Reading.{ListTables, hasRoom, readListInto}
+use Rattle.overflow.specs.Totals.{totalPages}
+use Rattle.overflow.specs.Cells.{hashSize, cellBytes}
+use Rattle.overflow.specs.Kept.{Kept, cellFor}
+use Rattle.allocator.specs.OpenSave.{Save, HandedOut, handOut}
+use Rattle.finisher.specs.Finish.{Finished, FinishAnswer, FinishRoom, FinishLent, lentPages, finishInto}
+use Rattle.rollback.specs.Calls.{Own, inFront, openOn, Call, Run, run}
+use Rattle.rollback.specs.Rollback.{GetsList, GetsValue, State, Good, StillReads}
 
--- one call: what stood behind the list in its tables, what else was lent, and what the call left
+-- one call: the open save that it was given, what else was lent, and what it left
 pub data CodeCall : Type 0 where
-  handOutMade : ListTables → Effect ℕ Counters → CodeCall
-  finishMade : ListTables → List ℕ → FinishRoom → Effect FinishAnswer FinishLent → CodeCall
+  handOutMade : Save → Outcome HandedOut → CodeCall
+  finishMade : Save → List ℕ → FinishRoom → Effect FinishAnswer FinishLent → CodeCall
 
--- after a finish that answers no call is made; a refused one leaves the save as it was
-abbrev pub ifAnswered : {A : Type 0} → Type 0 → Type 0 → Outcome A → Type 0
-ifAnswered ends goes (answer a) = ends
-ifAnswered ends goes (refused number values) = goes
+-- a save of this list and bump, which has handed out n numbers, with a recorded length and tables of the call's own
+abbrev pub OpenOn : FreeList → ℕ → ℕ → Save → Type 0
+OpenOn l bump n v = (own : Own) × (v ≡ openOn l bump n own)
 
--- calls on a save of this list and bump, each of which left what its contract says, on the counters as the call before left them
-abbrev pub Follows : ℕ → FreeList → ℕ → Counters → List CodeCall → Type 0
-Follows s l bump c [] = Unit {0}
-Follows s l bump c (handOutMade behind e ∷ made) = (e ≡ countUp s (openOn l bump c behind)) × Follows s l bump (e .lent) made
-Follows s l bump c (finishMade behind freed room e ∷ made) =
-    (e ≡ finishInto s (openOn l bump c behind) freed room) × ifAnswered (made ≡ []) (Follows s l bump c made) (e .outcome)
+-- where a call answered, and where it was refused
+abbrev pub ifAnswered : {A : Type 0} → (A → Type 0) → Type 0 → Outcome A → Type 0
+ifAnswered told stopped (answer a) = told a
+ifAnswered told stopped (refused number values) = stopped
 
--- the same calls as the statement has them
-abbrev pub callOf : CodeCall → Call
-callOf (handOutMade behind e) = handOutCall behind
-callOf (finishMade behind freed room e) = finishCall behind freed (roomIn room)
+-- Calls on a save of this list and bump, which has handed out n numbers. Each left what its contract says. One that answered was given
+-- that save, and the count of a number handed out goes on to the next; a finish that answered was the last. Nothing is asked of one that
+-- was refused: it may have been given anything.
+abbrev pub Follows : ℕ → FreeList → ℕ → ℕ → List CodeCall → Type 0
+Follows s l bump n [] = Unit {0}
+Follows s l bump n (handOutMade v o ∷ made) =
+    (o ≡ handOut s v) × ifAnswered (λ (h : HandedOut). OpenOn l bump n v × Follows s l bump (h .save .handed) made) (Follows s l bump n made) o
+Follows s l bump n (finishMade v freed room e ∷ made) =
+    (e ≡ finishInto s v freed room) × ifAnswered (λ (a : FinishAnswer). OpenOn l bump n v × (made ≡ [])) (Follows s l bump n made) (e .outcome)
 
 -- ---- what they told their caller
 
@@ -47,8 +52,8 @@ answers (refused number values) = []
 -- the numbers
 unfoldable pub numbersTold : List CodeCall → List ℕ
 numbersTold [] = []
-numbersTold (handOutMade behind e ∷ made) = answers (e .outcome) ++ numbersTold made
-numbersTold (finishMade behind freed room e ∷ made) = numbersTold made
+numbersTold (handOutMade v o ∷ made) = map (λ (h : HandedOut). h .number) (answers o) ++ numbersTold made
+numbersTold (finishMade v freed room e ∷ made) = numbersTold made
 
 -- a finish that answered: what was freed, its answer, and what it left
 pub record FinishTold : Type 0 where
@@ -61,8 +66,8 @@ toldWith freed lent a = record { freed = freed; answer = a; lent = lent }
 
 unfoldable pub finishTold : List CodeCall → List FinishTold
 finishTold [] = []
-finishTold (handOutMade behind e ∷ made) = finishTold made
-finishTold (finishMade behind freed room e ∷ made) = map (toldWith freed (e .lent)) (answers (e .outcome)) ++ finishTold made
+finishTold (handOutMade v o ∷ made) = finishTold made
+finishTold (finishMade v freed room e ∷ made) = map (toldWith freed (e .lent)) (answers (e .outcome)) ++ finishTold made
 
 -- the pages that it left in the buffer, with their numbers
 abbrev pub pagesLeft : ℕ → FinishTold → List Write
@@ -93,12 +98,18 @@ pub record IsRun (s : ℕ) (made : List CodeCall) (r : Run) : Type 0 where
 
 -- any sequence of calls of the code is a run of the statement
 abbrev pub CodeRuns : ℕ → Type 0
-CodeRuns s = (l : FreeList) (bump : ℕ) (c : Counters) (made : List CodeCall) → Follows s l bump c made → IsRun s made (run s l bump c (map callOf made))
+CodeRuns s = (l : FreeList) (bump n : ℕ) (made : List CodeCall) → Follows s l bump n made → (calls : List Call) × IsRun s made (run s l bump n calls)
 
 -- a save is opened with the tables that its list was read into
 abbrev pub ReadOpens : ℕ → Type 0
 ReadOpens s = (store : List ℕ) (head : ℕ) (l : FreeList) → GetsList s store head l → (t : ListTables) → hasRoom t l ≡ true
     → (behind : ListTables) × (readListInto s store false head t .lent ≡ inFront l behind)
+
+-- a value whose pages, as its writer makes them, stand in the store at their numbers, is one that its reader gets by its cell: size, hash,
+-- numbers and bytes
+abbrev pub WrittenReads : ℕ → Type 0
+WrittenReads s = (store value numbers : List ℕ) → Kept s store (totalPages s (length value)) value numbers → (hash : List ℕ) → length hash ≡ hashSize
+    → GetsValue s store (record { cell = cellBytes (cellFor value hash numbers); hash = hash; numbers = numbers; bytes = value })
 
 -- ---- demand 3 in the words of such a caller
 
@@ -109,6 +120,6 @@ pub data FromCode (s : ℕ) (made : List CodeCall) (w : Write) : Type 0 where
 
 -- whatever calls it makes and whichever of these pages are written, the first head and the first cells read as they did
 abbrev pub CodeRollback : ℕ → Type 0
-CodeRollback s = (a : State) → Good s a → (c : Counters) (made : List CodeCall) → Follows s (a .list) (a .bump) c made
+CodeRollback s = (a : State) → Good s a → (n : ℕ) (made : List CodeCall) → Follows s (a .list) (a .bump) n made
     → (extra : List ℕ) (writes : List Write) → ((w : Write) → List·Memᴰ w writes → FromCode s made w)
     → StillReads s a (writePages s (a .store ++ extra) writes)

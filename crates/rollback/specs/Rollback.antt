@@ -13,7 +13,6 @@ use Rattle.free_list.specs.Shape.{FreeList}
 use Rattle.free_list.specs.Reading.{sizeOf, ListTables, listIn, hasRoom, readListInto}
 use Rattle.overflow.specs.Cells.{cellCount, decodeCellInto}
 use Rattle.overflow.specs.Reading.{ReadLent, readValueInto}
-use Rattle.allocator.specs.OpenSave.{Counters}
 use Rattle.finisher.specs.Finish.{Finished}
 use Rattle.rollback.specs.Calls.{Call, Run, run}
 
@@ -46,7 +45,8 @@ pub record State : Type 0 where
   pub values : List Value
   pub bump : ℕ
 
--- its list and its values read; the list's numbers, pages and entries, all differ and lie below the bump; the values' do too, and are others
+-- its list and its values read; the list's numbers, pages and entries, all differ and lie below the bump; the numbers of the values' pages
+-- lie below the bump too, and are none of the list's
 pub record Good (s : ℕ) (a : State) : Type 0 where
   pub reads : GetsList s (a .store) (a .head) (a .list)
   pub each : (x : Value) → List·Memᴰ x (a .values) → GetsValue s (a .store) x
@@ -60,10 +60,10 @@ pub data ToWrite (s : ℕ) (r : Run) (w : Write) : Type 0 where
   valuePage : List·Memᴰ (w .number) (r .numbers) → length (w .bytes) ≡ s → ToWrite s r w
   listPage : (f : Finished) → List·Memᴰ f (r .finished) → List·Memᴰ w (f .written) → ToWrite s r w
 
--- the next save, cut anywhere: its counters at the start, of which nothing is asked, and its calls; the bytes by which the store has
--- grown; the pages written, each whole, in any order
+-- the next save, cut anywhere: how many numbers it counts as handed out at its start, of which nothing is asked, and its calls; the bytes
+-- by which the store has grown; the pages written, each whole, in any order
 pub record Cut (s : ℕ) (a : State) (after : List ℕ) : Type 0 where
-  pub start : Counters
+  pub start : ℕ
   pub calls : List Call
   pub extra : List ℕ
   pub writes : List Write

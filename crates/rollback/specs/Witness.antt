@@ -15,9 +15,8 @@ use Rattle.overflow.specs.ValuePages.{encodeValuePage}
 use Rattle.overflow.specs.Cells.{cellBytes}
 use Rattle.overflow.specs.Kept.{cellFor}
 use Rattle.overflow.specs.Reading.{ReadLent, readValueInto}
-use Rattle.allocator.specs.OpenSave.{Counters}
 use Rattle.finisher.specs.Finish.{RoomLent}
-use Rattle.rollback.specs.Calls.{Call, handOutCall, finishCall}
+use Rattle.rollback.specs.Calls.{Own, Call, handOutCall, finishCall}
 use Rattle.rollback.specs.Rollback.{Value, State, Good, Cut}
 use Rattle.rollback.specs.Seasons.{Season}
 
@@ -30,7 +29,7 @@ small = 16
 abbrev pub list : List ℕ → List ℕ → FreeList
 list pages entries = record { pages = pages; entries = entries }
 
--- two tables, or what stands behind a list in them
+-- two tables
 abbrev pub tables : List ℕ → List ℕ → ListTables
 tables pages entries = record { pages = pages; entries = entries }
 
@@ -48,9 +47,9 @@ listPageAt number entries = record { number = number; bytes = encodeListPage sma
 abbrev pub valuePageAt : ℕ → List ℕ → Write
 valuePageAt number bytes = record { number = number; bytes = encodeValuePage small [] bytes }
 
--- none handed out, and six pages
-abbrev pub start : Counters
-start = record { handed = 0; recorded = 6 }
+-- what a call has of its own: a recorded length of six pages, and these places behind the list
+abbrev pub own : List ℕ → List ℕ → Own
+own pages entries = record { recorded = 6; behind = tables pages entries }
 
 abbrev pub roomFor : ℕ → ℕ → RoomLent
 roomFor bytes numbers = record { bytes = bytes; numbers = numbers }
@@ -75,10 +74,10 @@ newBytes = 1 ∷ 2 ∷ 3 ∷ []
 
 abbrev pub calls : List Call
 calls =
-    finishCall (tables [] []) (4 ∷ []) (roomFor 64 4)
-    ∷ handOutCall (tables [] [])
-    ∷ finishCall (tables [] []) (4 ∷ []) (roomFor 15 1)
-    ∷ finishCall (tables (9 ∷ []) (9 ∷ 9 ∷ [])) (4 ∷ []) (roomFor 16 1)
+    finishCall (own [] []) (4 ∷ []) (roomFor 64 4)
+    ∷ handOutCall (own [] [])
+    ∷ finishCall (own [] []) (4 ∷ []) (roomFor 15 1)
+    ∷ finishCall (own (9 ∷ []) (9 ∷ 9 ∷ [])) (4 ∷ []) (roomFor 16 1)
     ∷ []
 
 abbrev pub writes : List Write
@@ -97,7 +96,7 @@ second =
 -- ---- the third is handed out 1 and 4, which were the first save's, writes there, and is cut before it is finished
 
 abbrev pub cutCalls : List Call
-cutCalls = handOutCall (tables [] []) ∷ handOutCall (tables (9 ∷ []) []) ∷ []
+cutCalls = handOutCall (own [] []) ∷ handOutCall (own (9 ∷ []) []) ∷ []
 
 abbrev pub cutWrites : List Write
 cutWrites = valuePageAt 4 (5 ∷ []) ∷ valuePageAt 1 (6 ∷ 6 ∷ []) ∷ []
