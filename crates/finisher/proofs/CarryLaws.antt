@@ -23,8 +23,8 @@ use Rattle.preallocate.proofs.SomeLaws.{plan-some}
 use Rattle.preallocate.proofs.PlanLaws.{plan-kept, plan-left}
 use Rattle.allocator.specs.OpenSave.{Save, listOf, bumped}
 use Rattle.allocator.proofs.SaveLaws.{Stands, stands}
-use Rattle.free_list.specs.Reading.{ListTables, listIn}
-use Rattle.finisher.specs.Finish.{Finished, FinishLent, newList, encodedPages, carriedOut, finished, bytesOfPages, stored, RoomLent, roomIn}
+use Rattle.free_list.specs.Reading.{ListTables}
+use Rattle.finisher.specs.Finish.{Finished, FinishLent, newList, encodedPages, carriedOut, finished, bytesOfPages, stored, roomIn}
 use Rattle.finisher.specs.Steps.{popped, unchanged, planFor, newNumbers, newTables, pushList, bytesFrom, Pushable, Listed, EncodableList, Goes, Changed, Doable}
 use Rattle.finisher.specs.declared.judge.Work.{Work}
 use Rattle.finisher.proofs.EncodeLaws.{length-encodedPages}

@@ -1,7 +1,7 @@
 -- The finish: its two ways, and what one that answers has passed.
 -- By its tests, one after another. Assumes nothing.
 use Prim.Native.Nat.{ℕ, _*_, min, _≤_}
-use mathlib.Core.Path.{_≡_, refl, subst}
+use mathlib.Core.Path.{_≡_, refl, sym, _∙_, ap, subst}
 use mathlib.Core.Bool.{true, false, _&&_}
 use mathlib.Core.List.{List, [], _∷_}
 use lib.Dec.{leb, eqb}
@@ -14,6 +14,8 @@ use Rattle.refusal.proofs.OutcomeLaws.{unanswer, check-answer}
 use Rattle.laws.proofs.Tests.{cond-cases, and-true}
 use Rattle.page.specs.PageSize.{IsPageSize, capacity}
 use Rattle.page.specs.Growth.{maxBump}
+use Rattle.free_list.specs.Shape.{FreeList}
+use Rattle.preallocate.specs.Plan.{planOf}
 use Rattle.preallocate.proofs.PlanLaws.{plan-bump}
 use Rattle.allocator.specs.OpenSave.{Save, listOf, bumped, stateFits}
 use Rattle.allocator.proofs.SaveLaws.{Stands, stands as standing}
@@ -90,3 +92,16 @@ succeeds s v freed room f e =
         entries = leb-true _ (length (v .entryTable)) (t .1);
       },
     )
+
+-- it has left the list, or carried out the plan
+pub finish-cases : {s : ℕ} {v : Save} {freed : List ℕ} {f : Finished} → Succeeds s v freed f → {l : FreeList} → listOf v ≡ l
+    → (Q : Finished → Type 0) (k : ℕ) → k ≡ min (v .handed) (length (l .entries))
+    → (k ≡ 0 → length freed ≡ 0 → Q (record { list = l; bump = bumped v; written = [] }))
+    → (eqb k 0 && eqb (length freed) 0 ≡ false → Q (carriedOut s l (planOf (capacity s) l k freed (bumped v)))) → Q f
+unfolding finished finishList
+finish-cases {s} {v} {freed} {f} done {l} of Q k e same changed =
+    let is : f ≡ finishList s l (bumped v) (v .handed) freed = done .is ∙ ap (λ (m : FreeList). finishList s m (bumped v) (v .handed) freed) of in
+    subst Q (sym is) (rw (← e) (cond-cases Q (eqb k 0 && eqb (length freed) 0) _ _ (λ t. stays (and-true (eqb k 0) _ t)) changed))
+  where
+    stays : (eqb k 0 ≡ true) × (eqb (length freed) 0 ≡ true) → Q (record { list = l; bump = bumped v; written = [] })
+    stays t = same (eqb-true k 0 (t .0)) (eqb-true (length freed) 0 (t .1))

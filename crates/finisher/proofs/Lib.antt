@@ -15,3 +15,4 @@ pub mod EncodedLaws
 pub mod WritingLaws
 pub mod ReadBackLaws
 pub mod WrittenLaws
+pub mod FinishedLaws

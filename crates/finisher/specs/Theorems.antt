@@ -1,5 +1,5 @@
 -- What is shown of finished saves.
-use Prim.Native.Nat.{ℕ, _+_, _-_, _<_, _≤_}
+use Prim.Native.Nat.{ℕ, _+_, _-_, min, _<_, _≤_}
 use mathlib.Core.Path.{_≡_}
 use mathlib.Core.Bool.{true, false, _&&_}
 use mathlib.Core.List.{List, List·Memᴰ}
@@ -7,6 +7,7 @@ use lib.Dec.{eqb}
 use lib.ListN.{length, drop}
 use Rattle.laws.specs.Counting.{count, numbersFrom}
 use Rattle.refusal.specs.Outcome.{answer}
+use Rattle.page.specs.PageSize.{capacity}
 use Rattle.page.specs.Pages.{pageCount, writePages}
 use Rattle.free_list.specs.Shape.{FreeList, isShape, headOf}
 use Rattle.free_list.specs.Reading.{readList}
@@ -27,6 +28,18 @@ abbrev pub NewShape : ℕ → Type 0
 NewShape c = 2 ≤ c → (l : FreeList) (k : ℕ) (freed : List ℕ) (bump : ℕ) → isShape c (length (l .pages)) (length (l .entries)) ≡ true
     → k ≤ length (l .entries) → eqb k 0 && eqb (length freed) 0 ≡ false
     → let m = newList l (planOf c l k freed bump) in isShape c (length (m .pages)) (length (m .entries)) ≡ true
+
+-- The same of a finish that answers: the list that it makes has the shape,
+abbrev pub FinishShape : ℕ → Type 0
+FinishShape s = (v : Save) (freed : List ℕ) (room : RoomLent) (f : Finished) → finish s v freed room ≡ answer f
+    → isShape (capacity s) (length (f .list .pages)) (length (f .list .entries)) ≡ true
+
+-- and its pages and entries, with the entries handed out, are those before, the freed numbers, and the numbers from the bump up to the
+-- new bump.
+abbrev pub FinishConserves : ℕ → Type 0
+FinishConserves s = (v : Save) (freed : List ℕ) (room : RoomLent) (f : Finished) → finish s v freed room ≡ answer f → (x : ℕ)
+    → count x (f .list .pages) + count x (f .list .entries) + count x (drop (v .L - min (v .handed) (v .L)) (listOf v .entries))
+    ≡ count x (listOf v .pages) + count x (listOf v .entries) + count x freed + count x (numbersFrom (bumped v) (f .bump - bumped v))
 
 -- What is asked of the list that a finish starts from, and of its bump. That the list was read tells only that its pages differ.
 -- `once`: each number stands in it once, as a page or as an entry; else a new page could be written over a page that is kept.

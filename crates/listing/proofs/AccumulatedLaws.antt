@@ -2,7 +2,7 @@
 use Prim.Native.Nat.{ℕ, suc, _+_, _*_, _-_, _^_, _≤_, _<_}
 use mathlib.Core.Path.{_≡_, refl, sym, ap, _∙_}
 use mathlib.Core.Bool.{Bool, true, false, _&&_, cond, and-true, and-false}
-use mathlib.Core.List.{List, [], _∷_, _++_, flatten}
+use mathlib.Core.List.{List, [], _∷_, _++_}
 use native.Mathlib.Nat.{add-zero, zero-add, pow-suc, pow-le-pow-right}
 use native.Mathlib.Numerals.{add-one}
 use native.Mathlib.Decide.{decLt}
@@ -15,7 +15,6 @@ use Rattle.listing.specs.declared.line.Line.{Line}
 use Rattle.listing.specs.declared.line.Size.the-variants.{Bad, Bytes}
 use Rattle.listing.specs.Decimal.{isDigit, allDigits, decimalAfter, decimalOf}
 use Rattle.listing.specs.Lines.{sizeOf}
-use Rattle.listing.specs.Text.{sizeText, lineText}
 use Rattle.listing.specs.Accumulated.{noBytes, noSize, withByte, withBytes, accumulatedSize}
 use Rattle.listing.proofs.DecimalLaws.{digit-range}
 

@@ -29,13 +29,13 @@ use Rattle.finisher.proofs.FreshLaws.{Between}
 use Rattle.finisher.proofs.CountLaws.{conserved}
 use Rattle.finisher.proofs.NewNumbersLaws.{new-entry, pages-below}
 use Rattle.finisher.proofs.ReadBackLaws.{good-freed, new-stored}
-use Rattle.finisher.proofs.FinishLaws.{Succeeds, succeeds}
+use Rattle.finisher.proofs.FinishLaws.{Succeeds, succeeds, finish-cases}
 use Rattle.rollback.specs.Calls.{Run}
 use Rattle.rollback.specs.Rollback.{GetsList, Value, GetsValue, State, Good, Cut, runOf}
-use Rattle.rollback.specs.Seasons.{Saved, Season, back, onward, Seasons, SeasonsGood, EveryCut}
+use Rattle.rollback.specs.Seasons.{Saved, Season, back, onward, SeasonsGood, EveryCut}
 use Rattle.rollback.proofs.ReadersLaws.{gets-list}
 use Rattle.rollback.proofs.CallsLaws.{Handed, Ran}
-use Rattle.rollback.proofs.WritesLaws.{distinct-below, carried-mem, finish-cases}
+use Rattle.rollback.proofs.WritesLaws.{distinct-below, carried-mem}
 use Rattle.rollback.proofs.RollbackLaws.{head-first, stored-first, Left, cut-ran, cut-left, more-pages, rollback}
 
 -- an entry that was handed out is among the last ones
@@ -262,7 +262,7 @@ module _ {s : ℕ} (size : IsPageSize s) {a b : State} (first : Good s a) (c : C
   finish-good : NewGood (f .list) (f .bump)
   unfolding k carriedOut
   finish-good =
-      finish-cases done (ran .of .list) (λ (x : Finished). f ≡ x → NewGood (x .list) (x .bump)) k refl (λ none e. same-good none)
+      finish-cases done (ran .of .list) (λ (x : Finished). f ≡ x → NewGood (x .list) (x .bump)) k refl (λ none _ e. same-good none)
       (λ changed e. changed-good changed e (omega (arith, done .limit, ap (λ (g : Finished). g .bump) e))) refl
 
   saved-good : Good s b

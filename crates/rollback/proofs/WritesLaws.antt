@@ -4,15 +4,13 @@ use Prim.Native.Nat.{ℕ, zero, suc, _+_, _-_, _^_, min, _<_, _≤_}
 use mathlib.Core.Path.{_≡_, refl, sym, _∙_, ap, subst}
 use mathlib.Core.Logic.{_⊎_, inl, inr}
 use mathlib.Core.Bool.{true, false, _&&_}
-use mathlib.Core.List.{List, [], _∷_, _++_, List·Memᴰ, List·Memᴰ·head, List·Memᴰ·tail, List·Memᴰ·cases-cons, List·Memᴰ·not-nil, Memᴰ·append-left, Memᴰ·append-right}
+use mathlib.Core.List.{List, _∷_, _++_, List·Memᴰ, List·Memᴰ·head, List·Memᴰ·tail, List·Memᴰ·cases-cons, List·Memᴰ·not-nil, Memᴰ·append-left, Memᴰ·append-right}
 use native.Mathlib.Decide.{decLt}
 use native.Mathlib.Omega.{arith}
 use lib.Dec.{eqb}
 use lib.ListN.{length, getD}
 use lib.Seq.{length-take-le}
-use borrow.Author.Tests.{eqb-true}
 use Rattle.laws.specs.Counting.{count, Different}
-use Rattle.laws.proofs.Tests.{cond-cases, and-true}
 use Rattle.laws.proofs.PlacesLaws.{getD-mem, at-places}
 use Rattle.laws.proofs.CountLaws.{count-append, mem-count, count-mem, count-within, different-once}
 use Rattle.page.specs.PageSize.{IsPageSize, capacity}
@@ -24,13 +22,13 @@ use Rattle.free_list.specs.StoredList.{Inside, StoredList}
 use Rattle.preallocate.specs.Plan.{Plan, planOf}
 use Rattle.preallocate.proofs.PlanLaws.{plan-kept}
 use Rattle.allocator.specs.OpenSave.{Save, listOf, bumped}
-use Rattle.finisher.specs.Finish.{newList, encodedPage, encodedPages, Finished, carriedOut, finishList, finished}
+use Rattle.finisher.specs.Finish.{newList, encodedPage, encodedPages, Finished, carriedOut}
 use Rattle.finisher.specs.Theorems.{DistinctBelow}
 use Rattle.finisher.proofs.NewShapeLaws.{new-shape}
 use Rattle.finisher.proofs.NewNumbersLaws.{count-new-pages}
 use Rattle.finisher.proofs.EncodedLaws.{encoded-long, decoded-before, decoded-entries}
 use Rattle.finisher.proofs.WrittenLaws.{written-old}
-use Rattle.finisher.proofs.FinishLaws.{Succeeds}
+use Rattle.finisher.proofs.FinishLaws.{Succeeds, finish-cases}
 use Rattle.rollback.proofs.CallsLaws.{Free, OpenedOn}
 
 -- numbers that differ are counted once at most
@@ -82,15 +80,6 @@ module _ (s : ℕ) (l : FreeList) (t : Plan) where
 -- ---- a finish that succeeds
 
 module _ {s : ℕ} {v : Save} {freed : List ℕ} {f : Finished} (done : Succeeds s v freed f) where
-  -- it has left the list, or carried out the plan
-  pub finish-cases : {l : FreeList} → listOf v ≡ l → (Q : Finished → Type 0) (k : ℕ) → k ≡ min (v .handed) (length (l .entries))
-      → (k ≡ 0 → Q (record { list = l; bump = bumped v; written = [] }))
-      → (eqb k 0 && eqb (length freed) 0 ≡ false → Q (carriedOut s l (planOf (capacity s) l k freed (bumped v)))) → Q f
-  unfolding finished finishList
-  finish-cases {l} of Q k e same changed =
-      let is : f ≡ finishList s l (bumped v) (v .handed) freed = done .is ∙ ap (λ (m : FreeList). finishList s m (bumped v) (v .handed) freed) of in
-      subst Q (sym is) (rw (← e) (cond-cases Q (eqb k 0 && eqb (length freed) 0) _ _ (λ t. same (eqb-true k 0 (and-true (eqb k 0) _ t .0))) changed))
-
   -- what it writes is whole pages
   pub written-whole : IsPageSize s → (w : Write) → List·Memᴰ w (f .written) → length (w .bytes) ≡ s
   written-whole size =
@@ -98,7 +87,7 @@ module _ {s : ℕ} {v : Save} {freed : List ℕ} {f : Finished} (done : Succeeds
       let k = min (v .handed) (length (l .entries)) in
       let shape : isShape (capacity s) (length (l .pages)) (length (l .entries)) ≡ true =
       rw (length-take-le (v .P) (v .pageTable) (done .stands .pages-fit), length-take-le (v .L) (v .entryTable) (done .stands .entries-fit)) (done .stands .shape) in
-      finish-cases refl (λ (x : Finished). (w : Write) → List·Memᴰ w (x .written) → length (w .bytes) ≡ s) k refl (λ _ w m. absurd (List·Memᴰ·not-nil m))
+      finish-cases done refl (λ (x : Finished). (w : Write) → List·Memᴰ w (x .written) → length (w .bytes) ≡ s) k refl (λ _ _ w m. absurd (List·Memᴰ·not-nil m))
       (λ changed. carried-all s l _ (λ (w : Write). length (w .bytes) ≡ s)
       (λ i a b. encoded-long s size _ (new-shape (capacity s) l k freed (bumped v) (size .two-entries) shape (omega arith) changed) i b))
 
@@ -176,6 +165,6 @@ module _ {s : ℕ} (size : IsPageSize s) {store : List ℕ} {l : FreeList} (stor
       let distinct : DistinctBelow l (bumped v) = distinct-below different (λ n h. omega (arith, below n h)) (omega (arith, done .stands .some)) in
       record {
         whole = written-whole done size w m;
-        apart = finish-cases done (of .list) (λ (x : Finished). List·Memᴰ w (x .written) → Apart s store l bump w) k refl (λ _ h. absurd (List·Memᴰ·not-nil h))
+        apart = finish-cases done (of .list) (λ (x : Finished). List·Memᴰ w (x .written) → Apart s store l bump w) k refl (λ _ _ h. absurd (List·Memᴰ·not-nil h))
             (λ changed. carried-all s l _ (Apart s store l bump) (page-apart k freed bump (bumped v) raised distinct (omega arith) changed) w) m;
       }

@@ -2,9 +2,8 @@
 -- Each row is an equation of two terms that compute to the same; a whole page that stands in a buffer by the law of such places, since
 -- place by place it computes too long.
 use Prim.Native.Nat.{ℕ, _+_}
-use mathlib.Core.Path.{_≡_, refl, _∙_, ap}
+use mathlib.Core.Path.{_≡_, refl, _∙_}
 use mathlib.Core.List.{List, [], _∷_, _++_, append-nil}
-use native.Mathlib.Nat.{zero-add}
 use native.Mathlib.Omega.{arith}
 use lib.ListN.{length, replicate, length-replicate}
 use lib.Seq.{sets, sets-eq}
@@ -19,31 +18,31 @@ use Rattle.free_list.specs.Reading.{ListTables, listIn, countFits, entriesFit, 
 use Rattle.free_list.specs.Shape.{FreeList, isShape, isFragmented, entriesBelow, entriesOn, headOf}
 use Rattle.preallocate.specs.Plan.{pagesFor, room as roomOf, pagesAfter, pushedAfter, firstPlan, nextPlan, enoughRoom, planOf}
 use Rattle.allocator.specs.OpenSave.{stateFits, nextNumber, nextRecorded, handOut, countUp}
-use Rattle.finisher.specs.Finish.{newList, encodedPage, encodedPages, Finished, carriedOut, finishList, firstBad, finishAnswer, tablesOf, finished, roomIn, finish as finishing, bytesOfPages, finishInto}
+use Rattle.finisher.specs.Finish.{newList, encodedPage, encodedPages, carriedOut, finishList, firstBad, finishAnswer, tablesOf, finished, roomIn, finish as finishing, bytesOfPages, finishInto}
 use Rattle.overflow.specs.Totals.{maxSize, rawPages, totalPages, totalOf, pageTotal}
 use Rattle.overflow.specs.Layout.{numbersBefore, numbersOn, bytesBefore, bytesOn}
 use Rattle.overflow.specs.ValuePages.{encodeValuePage, valuePage, chunk, chunkInto}
 use Rattle.samples.specs.Samples.{old, list, save, room, finish, writes, value, write, writesBytes, Samples}
 
 -- a whole page in a buffer with a place more
-page-stands : (page : List ℕ) → length page ≡ pageSize → sets (replicate (pageSize + 1) old) 0 page ≡ page ++ (old ∷ [])
-page-stands page e = sets-eq page (replicate (pageSize + 1) old) 0 (omega (arith, length-replicate {A = ℕ} (pageSize + 1) old)) ∙ rw (e)
+page-stands : (bytes : List ℕ) → length bytes ≡ pageSize → sets (replicate (pageSize + 1) old) 0 bytes ≡ bytes ++ (old ∷ [])
+page-stands bytes e = sets-eq bytes (replicate (pageSize + 1) old) 0 (omega (arith, length-replicate {A = ℕ} (pageSize + 1) old)) ∙ rw e
 
 -- the one page of a list
 abbrev pageOf : ℕ → List ℕ → Write
 pageOf number entries = record { number = number; bytes = encodeListPage pageSize 0 entries }
 
--- a finish that writes one page: what it answers and what is lent, from what it comes to
-one-page : (l : FreeList) (bump n : ℕ) (freed : List ℕ) (number : ℕ) (entries : List ℕ) (up : ℕ) (t : ListTables)
+-- a finish that writes one page: what it answers and what is lent, from what it comes to and that page's bytes
+one-page : (l : FreeList) (bump n : ℕ) (freed : List ℕ) (number : ℕ) (entries bytes : List ℕ) (up : ℕ) (t : ListTables)
     → finishing pageSize (save l bump n) freed (roomIn room) ≡ answer (record { list = list (number ∷ []) entries; bump = up; written = pageOf number entries ∷ [] })
-    → length (encodeListPage pageSize 0 entries) ≡ pageSize
+    → encodeListPage pageSize 0 entries ≡ bytes → length bytes ≡ pageSize
     → finishAnswer (save l bump n) (record { list = list (number ∷ []) entries; bump = up; written = pageOf number entries ∷ [] })
     ≡ record { head = number; bump = up; recorded = 8192; P = 1; L = length entries; count = 1 }
     → listIn (tablesOf (save l bump n)) (list (number ∷ []) entries) ≡ t
-    → finish l bump n freed ≡ writes number entries up t
+    → finish l bump n freed ≡ writes number (length entries) bytes up t
 unfolding finishInto bytesOfPages
-one-page l bump n freed number entries up t done long told stands =
-    rw (done, told, append-nil (encodeListPage pageSize 0 entries), page-stands (encodeListPage pageSize 0 entries) long, stands)
+one-page l bump n freed number entries bytes up t done encoded long told stands =
+    rw (done, told, append-nil (encodeListPage pageSize 0 entries), encoded, page-stands bytes long, stands)
 
 -- a page of the value
 page-of : (i : ℕ) (bytes : List ℕ) → chunk pageSize value (numbersFrom 101 16) i (length (replicate (pageSize + 1) old)) ≡ answer bytes
@@ -63,14 +62,14 @@ samples =
       list-read = refl;
       handed-out-first = refl;
       handed-out-second = refl;
-      finish-popped-and-freed = one-page (list (10 ∷ []) (20 ∷ 21 ∷ [])) 30 1 (15 ∷ []) 20 (15 ∷ 10 ∷ []) 30 _ refl refl refl refl;
-      finish-freed = one-page (list (10 ∷ []) (20 ∷ 21 ∷ [])) 30 0 (15 ∷ []) 21 (20 ∷ 15 ∷ 10 ∷ []) 30 _ refl refl refl refl;
+      finish-popped-and-freed = one-page (list (10 ∷ []) (20 ∷ 21 ∷ [])) 30 1 (15 ∷ []) 20 (15 ∷ 10 ∷ []) _ 30 _ refl refl refl refl refl;
+      finish-freed = one-page (list (10 ∷ []) (20 ∷ 21 ∷ [])) 30 0 (15 ∷ []) 21 (20 ∷ 15 ∷ 10 ∷ []) _ 30 _ refl refl refl refl refl;
       finish-empty-list = refl;
-      finish-empty-list-freed = one-page (list [] []) 30 0 (5 ∷ []) 30 (5 ∷ []) 31 _ refl refl refl refl;
+      finish-empty-list-freed = one-page (list [] []) 30 0 (5 ∷ []) 30 (5 ∷ []) _ 31 _ refl refl refl refl refl;
       all-popped-first = refl;
       all-popped-second = refl;
       all-popped-third = refl;
-      finish-all-popped = one-page (list (10 ∷ []) (20 ∷ [])) 30 3 [] 32 (10 ∷ []) 33 _ refl refl refl refl;
+      finish-all-popped = one-page (list (10 ∷ []) (20 ∷ [])) 30 3 [] 32 (10 ∷ []) _ 33 _ refl refl refl refl refl;
       total-61380 = refl;
       total-61381 = refl;
       total-65468 = refl;

@@ -1,5 +1,6 @@
--- Document 01's marked samples: one row each, at document 01's page size. Each is about the definition that the operation's contract
--- cites: what is answered, and every place of what is lent, after the call.
+-- Document 01's marked samples at its page size, a row for each answer that they name. A row is about the definition that the operation's
+-- contract cites: what is answered, and every place of what is lent, after the call; bytes are written out. Two rows are sums: that a page
+-- less would do.
 use Prim.Native.Nat.{ℕ, _+_, _*_, _-_, _^_}
 use mathlib.Core.Path.{_≡_}
 use mathlib.Core.Bool.{false}
@@ -10,9 +11,8 @@ use Rattle.refusal.specs.Outcome.{Outcome, answer}
 use Rattle.refusal.specs.Effect.{Effect, effect}
 use Rattle.page.specs.PageSize.{pageSize}
 use Rattle.page.specs.Growth.{grow}
-use Rattle.free_list.specs.ListPages.{encodeListPage}
 use Rattle.free_list.specs.Shape.{FreeList}
-use Rattle.free_list.specs.Reading.{ListSize, ListTables, readListInto}
+use Rattle.free_list.specs.Reading.{ListTables, readListInto}
 use Rattle.allocator.specs.OpenSave.{Save, Counters, countUp}
 use Rattle.finisher.specs.Finish.{FinishAnswer, FinishRoom, FinishLent, finishInto}
 use Rattle.overflow.specs.Totals.{Total, cellNumbers, body, pageTotal}
@@ -53,7 +53,7 @@ save l bump n =
       handed = n;
     }
 
--- the next number, after n; and the number that is handed out, with which n are
+-- the next number, after n; and this number, the n-th that is handed out
 abbrev pub next : FreeList → ℕ → ℕ → Effect ℕ Counters
 next l bump n = countUp pageSize (save l bump n)
 
@@ -68,11 +68,15 @@ room = record { buffer = replicate (pageSize + 1) old; numbers = old ∷ old ∷
 abbrev pub finish : FreeList → ℕ → ℕ → List ℕ → Effect FinishAnswer FinishLent
 finish l bump n freed = finishInto pageSize (save l bump n) freed room
 
--- it writes one page, which is the whole list: its number and its entries, the bump, and the tables
-abbrev pub writes : ℕ → List ℕ → ℕ → ListTables → Effect FinishAnswer FinishLent
-writes number entries bump t =
-    effect (answer (record { head = number; bump = bump; recorded = 8192; P = 1; L = length entries; count = 1 }))
-    (record { tables = t; room = record { buffer = encodeListPage pageSize 0 entries ++ (old ∷ []); numbers = number ∷ old ∷ [] } })
+-- a page with these bytes at its front, and zeros behind them
+abbrev pub page : List ℕ → List ℕ
+page bytes = bytes ++ replicate (pageSize - length bytes) 0
+
+-- it writes one page, which is the whole list: the page's number, how many entries, and its bytes; the bump, and the tables
+abbrev pub writes : ℕ → ℕ → List ℕ → ℕ → ListTables → Effect FinishAnswer FinishLent
+writes number entries bytes bump t =
+    effect (answer (record { head = number; bump = bump; recorded = 8192; P = 1; L = entries; count = 1 }))
+    (record { tables = t; room = record { buffer = bytes ++ (old ∷ []); numbers = number ∷ old ∷ [] } })
 
 -- it writes none, and there is no list: the bump
 abbrev pub writesNone : ℕ → Effect FinishAnswer FinishLent
@@ -86,7 +90,7 @@ writesNone bump =
 abbrev pub pages : ℕ → ℕ → ℕ → Outcome Total
 pages total cell spare = answer (record { total = total; cell = cell; spare = spare })
 
--- a value of 61,381 bytes: as document 01 has it, 4,088 on page 0, 4,092 on each page up to the 14th, 5 on page 15
+-- a value of 61,381 bytes: as document 01 has it, 4,088 on page 0, 4,092 on each of pages 1 to 14, 5 on page 15
 abbrev pub value : List ℕ
 value = replicate 4088 1 ++ (replicate (4092 * 14) 2 ++ replicate 5 3)
 
@@ -108,15 +112,17 @@ pub record Samples : Type 0 where
   pub handed-out-first : next (list (10 ∷ []) (20 ∷ 21 ∷ [])) 30 0 ≡ handed 21 1
   pub handed-out-second : next (list (10 ∷ []) (20 ∷ 21 ∷ [])) 30 1 ≡ handed 20 2
   pub finish-popped-and-freed :
-      finish (list (10 ∷ []) (20 ∷ 21 ∷ [])) 30 1 (15 ∷ []) ≡ writes 20 (15 ∷ 10 ∷ []) 30 (tables (20 ∷ old ∷ []) (15 ∷ 10 ∷ old ∷ old ∷ []))
+      finish (list (10 ∷ []) (20 ∷ 21 ∷ [])) 30 1 (15 ∷ [])
+      ≡ writes 20 2 (page (0 ∷ 0 ∷ 0 ∷ 0 ∷ 2 ∷ 0 ∷ 15 ∷ 0 ∷ 0 ∷ 0 ∷ 10 ∷ 0 ∷ 0 ∷ 0 ∷ [])) 30 (tables (20 ∷ old ∷ []) (15 ∷ 10 ∷ old ∷ old ∷ []))
   pub finish-freed :
-      finish (list (10 ∷ []) (20 ∷ 21 ∷ [])) 30 0 (15 ∷ []) ≡ writes 21 (20 ∷ 15 ∷ 10 ∷ []) 30 (tables (21 ∷ old ∷ []) (20 ∷ 15 ∷ 10 ∷ old ∷ []))
+      finish (list (10 ∷ []) (20 ∷ 21 ∷ [])) 30 0 (15 ∷ [])
+      ≡ writes 21 3 (page (0 ∷ 0 ∷ 0 ∷ 0 ∷ 3 ∷ 0 ∷ 20 ∷ 0 ∷ 0 ∷ 0 ∷ 15 ∷ 0 ∷ 0 ∷ 0 ∷ 10 ∷ 0 ∷ 0 ∷ 0 ∷ [])) 30 (tables (21 ∷ old ∷ []) (20 ∷ 15 ∷ 10 ∷ old ∷ []))
   pub finish-empty-list : finish (list [] []) 30 2 [] ≡ writesNone 32
-  pub finish-empty-list-freed : finish (list [] []) 30 0 (5 ∷ []) ≡ writes 30 (5 ∷ []) 31 (tables (30 ∷ []) (5 ∷ old ∷ []))
+  pub finish-empty-list-freed : finish (list [] []) 30 0 (5 ∷ []) ≡ writes 30 1 (page (0 ∷ 0 ∷ 0 ∷ 0 ∷ 1 ∷ 0 ∷ 5 ∷ 0 ∷ 0 ∷ 0 ∷ [])) 31 (tables (30 ∷ []) (5 ∷ old ∷ []))
   pub all-popped-first : next (list (10 ∷ []) (20 ∷ [])) 30 0 ≡ handed 20 1
   pub all-popped-second : next (list (10 ∷ []) (20 ∷ [])) 30 1 ≡ handed 30 2
   pub all-popped-third : next (list (10 ∷ []) (20 ∷ [])) 30 2 ≡ handed 31 3
-  pub finish-all-popped : finish (list (10 ∷ []) (20 ∷ [])) 30 3 [] ≡ writes 32 (10 ∷ []) 33 (tables (32 ∷ old ∷ []) (10 ∷ old ∷ old ∷ []))
+  pub finish-all-popped : finish (list (10 ∷ []) (20 ∷ [])) 30 3 [] ≡ writes 32 1 (page (0 ∷ 0 ∷ 0 ∷ 0 ∷ 1 ∷ 0 ∷ 10 ∷ 0 ∷ 0 ∷ 0 ∷ [])) 33 (tables (32 ∷ old ∷ []) (10 ∷ old ∷ old ∷ []))
   pub total-61380 : pageTotal pageSize 61380 ≡ pages 15 15 0
   pub total-61381 : pageTotal pageSize 61381 ≡ pages 16 15 4091
   pub total-65468 : pageTotal pageSize 65468 ≡ pages 16 15 4
@@ -128,4 +134,4 @@ pub record Samples : Type 0 where
   pub total-4243404-less-would-do : body pageSize * 1038 ≡ 4243404 + 4 * (1038 - cellNumbers)
   pub total-largest : pageTotal pageSize (2 ^ 29) ≡ pages 131329 15 527356
   pub page-0-of-61381 : write 0 ≡ writesBytes (1 ∷ 0 ∷ 248 ∷ 15 ∷ 116 ∷ 0 ∷ 0 ∷ 0 ∷ replicate 4088 1)
-  pub page-15-of-61381 : write 15 ≡ writesBytes (0 ∷ 0 ∷ 5 ∷ 0 ∷ 3 ∷ 3 ∷ 3 ∷ 3 ∷ 3 ∷ replicate (pageSize - 9) 0)
+  pub page-15-of-61381 : write 15 ≡ writesBytes (page (0 ∷ 0 ∷ 5 ∷ 0 ∷ 3 ∷ 3 ∷ 3 ∷ 3 ∷ 3 ∷ []))
