@@ -83,7 +83,8 @@ uint32_t mopsienna_grow(uint32_t page, uint64_t out[8]);
  *   2  the page's number is at or past the page count; out[0] is that number
  *   3  its count does not fit its place; out[0] is the page
  *   4  one of its entries is 0, or at or past the page count; out[0] is the page
- *   5  the list has not ended after as many pages as the store has
+ *   5  the list has not ended after as many pages as the store has; then no further page is looked
+ *      at, so that a store with no whole page gives 5 for every head but 0
  * and behind them all
  *   6  a table is shorter than the list
  */
@@ -94,11 +95,13 @@ uint32_t mopsienna_read_list(const uint8_t *store, size_t store_len, uint32_t he
 /*
  * The next two functions work on an open save. It is
  *
- *   bump     the next page number past the store, 1 to MOPSIENNA_MAX_BUMP
+ *   bump     the first page number that was never in use, 1 to MOPSIENNA_MAX_BUMP
  *   length   the store's recorded length, in pages: what the host's file has, which is not looked at
  *   P, L     the pages and the entries of the list, as mopsienna_read_list or the last
  *            mopsienna_finish left them in the tables `pages` and `entries`
  *   count    how many numbers this save was handed out: 0 at its start
+ *
+ * The bump, P and L stay as they are until the finish; count and length go on from call to call.
  *
  * No list of L entries has fewer than L / 1,022 pages, rounded up, or more than L / 1,022 + 1,
  * rounded down; one of none has no page. A save that is not so, whose bump is 0 or too large, or
@@ -112,8 +115,8 @@ uint32_t mopsienna_read_list(const uint8_t *store, size_t store_len, uint32_t he
  *   out[1]  the new count
  *   out[2]  the recorded length, grown as mopsienna_grow says if a number past the list is not below it
  *
- * Refusals: 1 for the save, 7 for a number that is not below MOPSIENNA_MAX_BUMP. After them the save
- * is as it was.
+ * Refusals: 1 for the save, 7 for a number past the list that is not below MOPSIENNA_MAX_BUMP. After
+ * them the save is as it was.
  */
 uint32_t mopsienna_hand_out(uint32_t bump, uint32_t length, uint64_t P, uint64_t L, uint64_t count,
                             const uint32_t *pages, size_t pages_len, const uint32_t *entries,
@@ -217,9 +220,9 @@ uint32_t mopsienna_decode_cell(const uint8_t *cell, size_t cell_len, uint8_t has
                                uint64_t out[8]);
 
 /*
- * Reads the value of a cell. Its `total` pages are walked in the order of their numbers: those of the
- * cell, and behind them those of each page. Every chain of pages that has `total` numbers and `size`
- * bytes in the end is read, whoever wrote it.
+ * Reads the value of a cell. Its `total` pages are walked in the order in which their numbers are
+ * found: those of the cell, and behind them those of each page. Page 0 is walked as any other. Every
+ * chain of pages that has `total` numbers and `size` bytes in the end is read, whoever wrote it.
  *
  *   out[0]  the size: value[0 .. size] holds the value
  *   out[1]  how many numbers were found, which is the total: numbers[0 .. total] holds them

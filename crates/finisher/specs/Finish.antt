@@ -43,7 +43,7 @@ pub record Finished : Type 0 where
   pub bump : ℕ
   pub written : List Write
 
--- the pages to write run from the top kept page to the new head
+-- the pages to write run from the top kept page, or the first new one where none is kept, to the new head
 unfoldable pub carriedOut : ℕ → FreeList → Plan → Finished
 carriedOut s l t =
     let m = newList l t in

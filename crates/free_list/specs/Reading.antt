@@ -24,7 +24,7 @@ abbrev pub onTop : ℕ → List ℕ → FreeList → FreeList
 onTop p entries l = record { pages = l .pages ++ (p ∷ []); entries = l .entries ++ entries }
 
 -- does a count of n fit a page that has `above` pages above it, with `entries` entries? The head holds 1 to c, every page below it c;
--- but under a head of one entry there may be one less. Read loosely, a page holds any count from 0 to c
+-- but under a head of one entry there may be one less. Read loosely, which no operation does, a page holds any count from 0 to c
 unfoldable pub countFits : Bool → ℕ → ℕ → ℕ → ℕ → Bool
 countFits loose c above entries n =
     cond loose (leb n c)

@@ -5,7 +5,7 @@ use mathlib.Core.List.{List}
 use lib.Dec.{leb, eqb}
 use lib.ListN.{length, getD, take, drop}
 
--- no page and no entry; or some entries, on as few pages as hold them, or one more
+-- no page and no entry; or some entries, on as few pages as hold them, or one more where they would fill these
 unfoldable pub isShape : ℕ → ℕ → ℕ → Bool
 isShape c P L = (eqb P 0 && eqb L 0) || (leb 1 L && (leb (c * (P - 1)) L && leb L (c * P)))
 
@@ -13,8 +13,8 @@ isShape c P L = (eqb P 0 && eqb L 0) || (leb 1 L && (leb (c * (P - 1)) L && leb 
 unfoldable pub isFragmented : ℕ → ℕ → ℕ → Bool
 isFragmented c P L = leb 2 P && eqb L (c * (P - 1))
 
--- how many entries stand on the pages below page j, which is counted from the bottom: c on each, but all but the last below the head
--- of a fragmented list
+-- how many entries stand on the pages below page j, which is counted from the bottom: c on each; below the head of a fragmented list all
+-- entries but one
 unfoldable pub entriesBelow : ℕ → ℕ → ℕ → ℕ → ℕ
 entriesBelow c P L j = cond (leb P j) L (cond (isFragmented c P L && leb P (j + 1)) (L - 1) (c * j))
 

@@ -8,7 +8,7 @@ use Rattle.refusal.specs.Refusals.{refusal}
 use Rattle.overflow.specs.declared.total.Totalled.{Totalled}
 use Rattle.overflow.specs.declared.total.Totalled.the-variants.{Pages, Refused}
 
--- the largest value
+-- the largest value: the same at all page sizes
 unfoldable pub maxSize : ℕ → ℕ
 maxSize s = 2 ^ 29
 

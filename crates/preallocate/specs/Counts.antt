@@ -36,7 +36,7 @@ pub record Poppable (c : ℕ) (l : FreeList) (popped bump : ℕ) : Type 0 where
 
 -- The first P and L places of the tables are such a list. Why each is asked:
 -- `size`: a page has 2 to `mostEntries` entries, so that entries times pages has 64 bits, and a new page makes more room than it takes;
--- `shape`: the entries fill all pages but the top one, so that the page which an entry stands on follows from the entry's place;
+-- `shape`: from it follows which page an entry stands on, by the entry's place;
 -- `pages-fit`, `entries-fit`: the list lies in the tables;
 -- `pops`: no more was popped than the list has;
 -- `bumps`: a save whose own bump is past the limit is refused before it is planned; the bump is raised by one for each new page at most,
@@ -53,7 +53,7 @@ pub record Planable (s : ℕ) (pages entries : List ℕ) (P L popped bump : ℕ)
 abbrev pub narrow : ℕ → ℕ
 narrow n = cond (ltb n (2 ^ 32)) n 0
 
--- the code has come to these counts, and put these numbers of new pages into `out` from place `at` on
+-- the code has come to these counts, and put these numbers of new pages into `out` from place `at` on, as far as it reaches
 pub record Told (q : Counts) (at : ℕ) (names before : List ℕ) (r : Counts) (after : List ℕ) : Type 0 where
   pub counted : r ≡ q
   pub named : after ≡ sets before at (map narrow names)

@@ -6,8 +6,8 @@ use lib.Dec.{leb, ltb, eqb}
 use lib.ListN.{length, getD, drop}
 use Rattle.free_list.specs.Shape.{FreeList, isFragmented}
 
--- a finish under way: how many pages and entries of the first list are kept, the number of the top kept page, the push list, the new
--- pages, the bump
+-- a finish under way: how many pages and entries of the first list are kept, the number of the top kept page (of no meaning where none is
+-- kept), the push list, the new pages, the bump
 pub record Plan : Type 0 where
   pub kept : ℕ
   pub left : ℕ

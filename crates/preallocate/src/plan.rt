@@ -34,7 +34,7 @@ pub fn is_fragmented(c: usize, pages: usize, entries: usize) -> bool
     2 <= pages && entries == c * (pages - 1)
 }
 
-// Whether the list is fragmented and none of it was popped: then its head is emptied into the page under it.
+// Whether the list is fragmented and none of it was popped: then the head's one entry becomes the number of the page under it.
 pub fn mends(c: usize, pages: usize, entries: usize, popped: usize) -> bool
     requires { ⌜ c * (pages - 1) < 2 ^ 64 ⌝ }
     ensures { λ r. ⌜ r ≡ eqb popped 0 && isFragmented c pages entries ⌝ }

@@ -10,9 +10,8 @@
 // it goes to the push list. The new list needs pages for the push list. Their numbers are popped from the old list, where free numbers
 // are, before the bump is raised, which would grow the store. Each pop makes the list shorter and may bring another page to the top,
 // which is then changed too, and whose number joins the push list: so pushes make pops and pops make pushes, and the turns go on until
-// the room is enough. Where the last number pushed would be the first on a new page, and the pop for that page has touched a page that
-// was whole, one place more has come free than is pushed: that list is *fragmented*, its head has one entry and the page under it one
-// less than it could. The next save mends it.
+// the room is enough. Where one place is missing, the pop that gets a new page frees a place too, so that one page more is there than is
+// needed: that list is *fragmented*, its head has one entry and the page under it one less than it could. The next save mends it.
 ghost use mathlib.Core.Path.{_≡_};
 ghost use mathlib.Core.Bool.{true, false};
 ghost use mathlib.Core.List.{List, [], _∷_};

@@ -26,7 +26,7 @@ number (ValuePage index) = 16
 number Numbers = 17
 number Bytes = 18
 
--- what is returned beside the number
+-- what is returned beside the number; of a page that is looked up the index of `Missing` is its number
 abbrev pub values : Refusal → List ℕ
 values State = []
 values (ListPage page) = page ∷ []
