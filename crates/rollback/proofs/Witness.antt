@@ -9,7 +9,7 @@ use native.Mathlib.Omega.{arith}
 use lib.Dec.{ltb, eqb}
 use lib.ListN.{length, getD}
 use borrow.Author.Tests.{ltb-true, eqb-false, not-true}
-use Rattle.refusal.specs.Outcome.{answer}
+use Rattle.refusal.specs.Outcome.{answer, refused}
 use Rattle.laws.proofs.Tests.{and-true}
 use Rattle.page.specs.Bytes.{numberAt, bytesOf, numbersAt, bytesOfAll}
 use Rattle.page.specs.PageSize.{IsPageSize, capacity}
@@ -27,10 +27,10 @@ use Rattle.overflow.specs.Reading.{inStore, parsePage, walk, admitted, readValu
 use Rattle.preallocate.specs.Plan.{pagesFor, room, pagesAfter, pushedAfter, firstPlan, nextPlan, enoughRoom, planOf}
 use Rattle.allocator.specs.OpenSave.{stateFits, nextNumber, nextRecorded, handOut}
 use Rattle.finisher.specs.Finish.{newList, encodedPage, encodedPages, Finished, carriedOut, finishList, firstBad, finished, finish}
-use Rattle.rollback.specs.Calls.{Run, run}
+use Rattle.rollback.specs.Calls.{openOn, Run, run}
 use Rattle.rollback.specs.Rollback.{Value, GetsValue, Good, ToWrite, valuePage as anyPage, listPage, Cut}
 use Rattle.rollback.specs.Seasons.{Saved, Season, onward}
-use Rattle.rollback.specs.Witness.{small, list, hash, valueAt, listPageAt, valuePageAt, bytes, store, first, newBytes, calls, writes, second, cutCalls, cutWrites, cutStore, Witnessed}
+use Rattle.rollback.specs.Witness.{small, list, hash, valueAt, listPageAt, valuePageAt, own, roomFor, bytes, store, first, newBytes, calls, writes, second, cutCalls, cutWrites, cutStore, Witnessed}
 use Rattle.rollback.proofs.ReadersLaws.{gets-list}
 use Rattle.rollback.proofs.BridgeLaws.{written-value}
 
@@ -120,6 +120,14 @@ result = record { list = list (2 ∷ []) (4 ∷ 1 ∷ []); bump = 5; written = l
 abbrev made : Run
 made = record { numbers = 3 ∷ []; finished = result ∷ []; freed = 4 ∷ [] }
 
+short-tables : finish small (openOn (first .list) (first .bump) 0 (own [] [])) (4 ∷ []) (roomFor 64 4) ≡ refused 6 []
+unfolding first stateFits isShape isFragmented capacity firstBad newList entriesBelow carriedOut finishList finished finish pagesFor room pagesAfter pushedAfter firstPlan nextPlan enoughRoom planOf
+short-tables = refl
+
+short-room : finish small (openOn (first .list) (first .bump) 1 (own [] [])) (4 ∷ []) (roomFor 15 1) ≡ refused 9 []
+unfolding first stateFits isShape isFragmented capacity firstBad newList encodedPages carriedOut finishList finished finish pagesFor room pagesAfter pushedAfter firstPlan nextPlan enoughRoom planOf
+short-room = refl
+
 made-so : run small (first .list) (first .bump) 0 calls ≡ made
 unfolding first run handOut stateFits isShape isFragmented capacity nextNumber nextRecorded grown roundedUp firstBad newList entriesBelow entriesOn encodedPage encodedPages carriedOut finishList finished finish pagesFor room pagesAfter pushedAfter firstPlan nextPlan enoughRoom planOf
 made-so = refl
@@ -193,6 +201,8 @@ witnessed =
     record {
       good = good;
       next = next;
+      short-tables = short-tables;
+      short-room = short-room;
       cut = cut;
       list-read = refl;
       value-read = refl;

@@ -15,8 +15,8 @@ use Rattle.overflow.specs.ValuePages.{encodeValuePage}
 use Rattle.overflow.specs.Cells.{cellBytes}
 use Rattle.overflow.specs.Kept.{cellFor}
 use Rattle.overflow.specs.Reading.{ReadLent, readValueInto}
-use Rattle.finisher.specs.Finish.{RoomLent}
-use Rattle.rollback.specs.Calls.{Own, Call, handOutCall, finishCall}
+use Rattle.finisher.specs.Finish.{finish, RoomLent}
+use Rattle.rollback.specs.Calls.{Own, openOn, Call, handOutCall, finishCall}
 use Rattle.rollback.specs.Rollback.{Value, State, Good, Cut}
 use Rattle.rollback.specs.Seasons.{Season}
 
@@ -110,11 +110,14 @@ abbrev pub noValue : ReadLent
 noValue = record { numbers = 0 ∷ 0 ∷ []; value = 0 ∷ 0 ∷ 0 ∷ 0 ∷ 0 ∷ [] }
 
 pub record Witnessed : Type 0 where
-  -- the first save is as asked, the second follows it, and the third is cut there
+  -- the first save is as asked, and the second follows it
   pub good : Good small first
   pub next : Season small first second
+  -- the second save's first finish is refused for its tables, and the next for its room
+  pub short-tables : finish small (openOn (first .list) (first .bump) 0 (own [] [])) (4 ∷ []) (roomFor 64 4) ≡ refused 6 []
+  pub short-room : finish small (openOn (first .list) (first .bump) 1 (own [] [])) (4 ∷ []) (roomFor 15 1) ≡ refused 9 []
+  -- the third is cut, and then the second one's list and value are read
   pub cut : Cut small second cutStore
-  -- after the cut the second one's list and value are read
   pub list-read : readListInto small cutStore false 2 (tables (0 ∷ 0 ∷ []) (0 ∷ 0 ∷ 0 ∷ []))
       ≡ effect (answer (record { P = 1; L = 2 })) (tables (2 ∷ 0 ∷ []) (4 ∷ 1 ∷ 0 ∷ []))
   pub value-read : readValueInto small (valueAt 3 newBytes .cell) cutStore noValue
