@@ -9,10 +9,11 @@ enum { PAGE = 4096, LENGTH = 8192, ROOM = 64, SIZE = 61381 };
 
 /* What the host keeps of its last save. Here the store is new: page 0 is the host's, no other is used. */
 static struct root {
-    uint32_t head, bump, length, cell_len;
+    uint32_t head, bump, cell_len;
     uint8_t cell[100];
-} root = {.head = 0, .bump = 1, .length = LENGTH};
+} root = {.head = 0, .bump = 1};
 static uint8_t store[(size_t)LENGTH * PAGE];
+static uint32_t length = LENGTH; /* the store's, in pages: no save takes it back */
 static int power_is_cut;
 
 static void must(int right) {
@@ -42,13 +43,12 @@ static void save(const uint8_t value[SIZE]) {
     uint64_t P = out[0], L = out[1];
     must(mopsienna_total(SIZE, out) == 0);
     uint64_t total = out[0], in_cell = out[1];
-
     /* A number for each page of the value. Count and length move on, the bump stays. */
     for (uint64_t i = 0; i < total; i++) {
-        must(mopsienna_hand_out(root.bump, new.length, P, L, count, pages, ROOM, entries, ROOM, out) == 0);
+        must(mopsienna_hand_out(root.bump, length, P, L, count, pages, ROOM, entries, ROOM, out) == 0);
         numbers[i] = (uint32_t)out[0];
         count = out[1];
-        new.length = (uint32_t)out[2];
+        length = (uint32_t)out[2];
     }
     /* The value's pages, and the cell that leads to them. */
     for (uint64_t i = 0; i < total; i++) {
@@ -58,11 +58,11 @@ static void save(const uint8_t value[SIZE]) {
     must(mopsienna_encode_cell(SIZE, hash, numbers, in_cell, new.cell, sizeof new.cell) == 0);
     new.cell_len = 40 + 4 * (uint32_t)in_cell;
     /* The new free list, with the freed numbers, and the pages of it that are to be written. */
-    must(mopsienna_finish(root.bump, new.length, P, L, count, pages, ROOM, entries, ROOM, freed, freed_len,
+    must(mopsienna_finish(root.bump, length, P, L, count, pages, ROOM, entries, ROOM, freed, freed_len,
                           buffer, sizeof buffer, list_numbers, ROOM, out) == 0);
     new.head = (uint32_t)out[0];
     new.bump = (uint32_t)out[1];
-    new.length = (uint32_t)out[2];
+    length = (uint32_t)out[2];
     for (uint64_t i = 0; i < out[5]; i++)
         write_page(list_numbers[i], buffer + i * PAGE);
     /* The root comes last. On a disk: fsync before it, and again behind it. */
