@@ -95,7 +95,7 @@ uint32_t mopsienna_read_list(const uint8_t *store, size_t store_len, uint32_t he
 /*
  * The next two functions work on an open save. It is
  *
- *   bump     the first page number that was never in use, 1 to MOPSIENNA_MAX_BUMP
+ *   bump     the first page number past all that are in use or free, 1 to MOPSIENNA_MAX_BUMP
  *   length   the store's recorded length, in pages: what the host's file has, which is not looked at
  *   P, L     the pages and the entries of the list, as mopsienna_read_list or the last
  *            mopsienna_finish left them in the tables `pages` and `entries`

@@ -9,7 +9,7 @@ use mathlib.Core.Bool.{Bool, true, false, _&&_}
 use mathlib.Core.List.{List, [], map, append-nil, List·Memᴰ}
 use lib.Dec.{eqb}
 use lib.ListN.{length, getD, take}
-use lib.Seq.{sets, length-sets, length-take-le, getD-take}
+use lib.Seq.{sets, length-sets, getD-take}
 use Rattle.page.specs.PageSize.{IsPageSize, capacity}
 use Rattle.page.specs.Growth.{maxBump}
 use Rattle.page.specs.Pages.{Write}
@@ -28,7 +28,7 @@ use Rattle.finisher.specs.Finish.{Finished, FinishLent, newList, encoded
 use Rattle.finisher.specs.Steps.{popped, unchanged, planFor, newNumbers, newTables, pushList, bytesFrom, Pushable, Listed, EncodableList, Goes, Changed, Doable}
 use Rattle.finisher.specs.declared.judge.Work.{Work}
 use Rattle.finisher.proofs.EncodeLaws.{length-encodedPages}
-use Rattle.finisher.proofs.FinishLaws.{finished-same, finished-changed, bump-raised, Succeeds, Room, succeeds}
+use Rattle.finisher.proofs.FinishLaws.{pages-listed, entries-listed, list-shape, finished-same, finished-changed, bump-raised, Succeeds, Room, succeeds}
 use Rattle.finisher.proofs.PushLaws.{Pushes, plan-pushes, plan-longer, plan-few}
 use Rattle.finisher.proofs.FreshLaws.{Taken, plan-fresh}
 use Rattle.finisher.proofs.NewListLaws.{numbers-of-pages, length-new-numbers, length-new-pages, new-written, table-pages, table-entries}
@@ -56,13 +56,13 @@ module _ {s : ℕ} {v : Save} {freed : List ℕ} (h : Changed s v freed) where
   standing = stands s v (h .state)
 
   many : length (listOf v .pages) ≡ v .P
-  many = length-take-le (v .P) (v .pageTable) (standing .pages-fit)
+  many = pages-listed standing
 
   all : length (listOf v .entries) ≡ v .L
-  all = length-take-le (v .L) (v .entryTable) (standing .entries-fit)
+  all = entries-listed standing
 
   shape : isShape (capacity s) (length (listOf v .pages)) (length (listOf v .entries)) ≡ true
-  shape = rw (many, all) (standing .shape)
+  shape = list-shape standing
 
   pub bounds : Bounds (capacity s) (v .P) (v .L) (length freed) plan
   bounds =

@@ -5,7 +5,7 @@ use mathlib.Core.Path.{_≡_, refl, sym, _∙_, ap, subst}
 use mathlib.Core.Bool.{true, false, _&&_}
 use mathlib.Core.List.{List, [], _∷_}
 use lib.Dec.{leb, eqb}
-use lib.ListN.{length, take}
+use lib.ListN.{length}
 use lib.Seq.{length-take-le}
 use native.Mathlib.Omega.{arith}
 use borrow.Author.Tests.{leb-true, eqb-true}
@@ -14,7 +14,7 @@ use Rattle.refusal.proofs.OutcomeLaws.{unanswer, check-answer}
 use Rattle.laws.proofs.Tests.{cond-cases, and-true}
 use Rattle.page.specs.PageSize.{IsPageSize, capacity}
 use Rattle.page.specs.Growth.{maxBump}
-use Rattle.free_list.specs.Shape.{FreeList}
+use Rattle.free_list.specs.Shape.{FreeList, isShape}
 use Rattle.preallocate.specs.Plan.{planOf}
 use Rattle.preallocate.proofs.PlanLaws.{plan-bump}
 use Rattle.allocator.specs.OpenSave.{Save, listOf, bumped, stateFits}
@@ -25,8 +25,18 @@ use Rattle.finisher.specs.Steps.{popped, unchanged, planFor}
 -- ---- the two ways of a finish
 
 module _ {s : ℕ} {v : Save} (st : Stands s v) where
-  pops-are : min (v .handed) (length (take (v .L) (v .entryTable))) ≡ popped v
-  pops-are = rw (length-take-le (v .L) (v .entryTable) (st .entries-fit))
+  -- the list has as many pages and entries as its save says, and the shape
+  pub pages-listed : length (listOf v .pages) ≡ v .P
+  pages-listed = length-take-le (v .P) (v .pageTable) (st .pages-fit)
+
+  pub entries-listed : length (listOf v .entries) ≡ v .L
+  entries-listed = length-take-le (v .L) (v .entryTable) (st .entries-fit)
+
+  pub list-shape : isShape (capacity s) (length (listOf v .pages)) (length (listOf v .entries)) ≡ true
+  list-shape = rw (pages-listed, entries-listed) (st .shape)
+
+  pops-are : min (v .handed) (length (listOf v .entries)) ≡ popped v
+  pops-are = rw entries-listed
 
   pub finished-same : (freed : List ℕ) → unchanged v freed ≡ true → finished s v freed ≡ record { list = listOf v; bump = bumped v; written = [] }
   unfolding finished finishList
@@ -40,11 +50,9 @@ module _ {s : ℕ} {v : Save} (st : Stands s v) where
 pub bump-raised : {s : ℕ} {v : Save} (freed : List ℕ) → IsPageSize s → Stands s v → bumped v ≤ finished s v freed .bump
 unfolding finished finishList carriedOut
 bump-raised {s} {v} freed size st =
-    let k = min (v .handed) (length (take (v .L) (v .entryTable))) in
-    let many = length-take-le (v .P) (v .pageTable) (st .pages-fit) in
-    let all = length-take-le (v .L) (v .entryTable) (st .entries-fit) in
+    let k = min (v .handed) (length (listOf v .entries)) in
     cond-cases (λ (f : Finished). bumped v ≤ f .bump) (eqb k 0 && eqb (length freed) 0) _ _ (λ e. omega arith)
-    (λ e. plan-bump (capacity s) (listOf v) (size .two-entries) (rw (many, all) (st .shape)) k freed (bumped v))
+    (λ e. plan-bump (capacity s) (listOf v) (size .two-entries) (list-shape st) k freed (bumped v))
 
 -- ---- a finish that succeeds
 

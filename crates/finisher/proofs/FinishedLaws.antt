@@ -6,7 +6,6 @@ use mathlib.Core.Bool.{true}
 use mathlib.Core.List.{List, [], _∷_}
 use native.Mathlib.Omega.{arith}
 use lib.ListN.{length, drop, length-drop}
-use lib.Seq.{length-take-le}
 use Rattle.laws.specs.Counting.{count, numbersFrom}
 use Rattle.laws.proofs.CountLaws.{count-none}
 use Rattle.page.specs.PageSize.{IsPageSize, capacity}
@@ -15,28 +14,19 @@ use Rattle.allocator.specs.OpenSave.{Save, listOf, bumped}
 use Rattle.finisher.specs.Finish.{Finished, carriedOut}
 use Rattle.finisher.specs.Steps.{popped}
 use Rattle.finisher.specs.Theorems.{FinishShape, FinishConserves}
-use Rattle.finisher.proofs.FinishLaws.{Succeeds, succeeds, finish-cases}
+use Rattle.finisher.proofs.FinishLaws.{entries-listed, list-shape, Succeeds, succeeds, finish-cases}
 use Rattle.finisher.proofs.NewShapeLaws.{new-shape}
 use Rattle.finisher.proofs.CountLaws.{conserved}
 
 module _ {s : ℕ} (size : IsPageSize s) {v : Save} {freed : List ℕ} {f : Finished} (done : Succeeds s v freed f) where
-  many : length (listOf v .pages) ≡ v .P
-  many = length-take-le (v .P) (v .pageTable) (done .stands .pages-fit)
-
-  all : length (listOf v .entries) ≡ v .L
-  all = length-take-le (v .L) (v .entryTable) (done .stands .entries-fit)
-
-  shape : isShape (capacity s) (length (listOf v .pages)) (length (listOf v .entries)) ≡ true
-  shape = rw (many, all) (done .stands .shape)
-
   pops : popped v ≡ min (v .handed) (length (listOf v .entries))
-  pops = rw all
+  pops = rw (entries-listed (done .stands))
 
   new-list-shape : isShape (capacity s) (length (f .list .pages)) (length (f .list .entries)) ≡ true
   unfolding carriedOut
   new-list-shape =
-      finish-cases done refl (λ (g : Finished). isShape (capacity s) (length (g .list .pages)) (length (g .list .entries)) ≡ true) (popped v) pops (λ _ _. shape)
-      (λ changed. new-shape (capacity s) (listOf v) (popped v) freed (bumped v) (size .two-entries) shape (omega (arith, all)) changed)
+      finish-cases done refl (λ (g : Finished). isShape (capacity s) (length (g .list .pages)) (length (g .list .entries)) ≡ true) (popped v) pops (λ _ _. list-shape (done .stands))
+      (λ changed. new-shape (capacity s) (listOf v) (popped v) freed (bumped v) (size .two-entries) (list-shape (done .stands)) (omega (arith, pops)) changed)
 
   numbers-conserved : (x : ℕ)
       → count x (f .list .pages) + count x (f .list .entries) + count x (drop (v .L - popped v) (listOf v .entries))
@@ -47,7 +37,7 @@ module _ {s : ℕ} (size : IsPageSize s) {v : Save} {freed : List ℕ} {f : Fini
       (λ (g : Finished). count x (g .list .pages) + count x (g .list .entries) + count x (drop (v .L - popped v) (listOf v .entries))
       ≡ count x (listOf v .pages) + count x (listOf v .entries) + count x freed + count x (numbersFrom (bumped v) (g .bump - bumped v)))
       (popped v) pops same
-      (λ changed. rw all at (conserved (capacity s) (omega (arith, size .two-entries)) (listOf v) (popped v) freed (bumped v) shape x))
+      (λ changed. rw (entries-listed (done .stands)) at (conserved (capacity s) (omega (arith, size .two-entries)) (listOf v) (popped v) freed (bumped v) (list-shape (done .stands)) x))
     where
       empty : (ns : List ℕ) → length ns ≡ 0 → count x ns ≡ 0
       empty [] e = count-none x
@@ -57,7 +47,7 @@ module _ {s : ℕ} (size : IsPageSize s) {v : Save} {freed : List ℕ} {f : Fini
           → count x (listOf v .pages) + count x (listOf v .entries) + count x (drop (v .L - popped v) (listOf v .entries))
           ≡ count x (listOf v .pages) + count x (listOf v .entries) + count x freed + count x (numbersFrom (bumped v) (bumped v - bumped v))
       same none no-freed =
-          let left : length (drop (v .L - popped v) (listOf v .entries)) ≡ 0 = omega (arith, length-drop (v .L - popped v) (listOf v .entries), all) in
+          let left : length (drop (v .L - popped v) (listOf v .entries)) ≡ 0 = omega (arith, length-drop (v .L - popped v) (listOf v .entries), entries-listed (done .stands)) in
           let no-bump : bumped v - bumped v ≡ 0 = omega arith in
           let raised : count x (numbersFrom (bumped v) (bumped v - bumped v)) ≡ 0 = rw no-bump (count-none x) in
           omega (arith, empty freed no-freed, empty (drop (v .L - popped v) (listOf v .entries)) left, raised)

@@ -10,7 +10,7 @@ use lib.Dec.{eqb}
 use lib.ListN.{length}
 use borrow.Author.Tests.{eqb-true}
 use Rattle.laws.proofs.Tests.{and-true}
-use lib.Seq.{sets, length-take-le}
+use lib.Seq.{sets}
 use Rattle.refusal.specs.Outcome.{answer, refused}
 use Rattle.refusal.proofs.OutcomeLaws.{unanswer, withAnswer-answer, withAnswer-refused}
 use Rattle.laws.proofs.SetsLaws.{take-sets}
@@ -26,7 +26,7 @@ use Rattle.free_list.specs.Shape.{headOf}
 use Rattle.finisher.specs.Finish.{Finished, finishAnswer, finished, finish, RoomLent, roomIn}
 use Rattle.finisher.specs.Steps.{unchanged, planFor, allKept, workOf, sameWork, judged, answerOf, Begun, Goes, Changed}
 use Rattle.finisher.specs.declared.judge.Work.{Work}
-use Rattle.finisher.proofs.FinishLaws.{finished-same, Succeeds, Room, succeeds}
+use Rattle.finisher.proofs.FinishLaws.{pages-listed, entries-listed, finished-same, Succeeds, Room, succeeds}
 use Rattle.finisher.proofs.CarryLaws.{bounds, bump-planned, pages-count, entries-count, written-count, save-planable}
 
 -- the work's bump is the finish's
@@ -55,7 +55,7 @@ module _ {s : ℕ} {v : Save} {pops bump : ℕ} (b : Begun s v pops bump) where
     pub same-work : eqb pops 0 && eqb (length freed) 0 ≡ true → sameWork (record { bump = v .bump; pages = v .P; entries = v .L }) bump ≡ workOf s v freed
     same-work e =
         let none = eqb-true pops 0 (and-true (eqb pops 0) (eqb (length freed) 0) e .0) in
-        rw (b .bump-is, same-test e, finished-same standing freed (same-test e), length-take-le (v .P) (v .pageTable) (standing .pages-fit), length-take-le (v .L) (v .entryTable) (standing .entries-fit), sym (b .pops-are) ∙ none)
+        rw (b .bump-is, same-test e, finished-same standing freed (same-test e), pages-listed standing, entries-listed standing, sym (b .pops-are) ∙ none)
 
     module _ (e : eqb pops 0 && eqb (length freed) 0 ≡ false) {r : Counts} (is : r ≡ counts (planOf (capacity s) (listOf v) pops freed bump)) where
       changed : Changed s v freed

@@ -3,13 +3,12 @@
 use Prim.Native.Nat.{ℕ, zero, suc, _+_, _-_, _^_, min, _<_, _≤_}
 use mathlib.Core.Path.{_≡_, refl, sym, _∙_, ap, subst}
 use mathlib.Core.Logic.{_⊎_, inl, inr}
-use mathlib.Core.Bool.{true, false, _&&_}
+use mathlib.Core.Bool.{false, _&&_}
 use mathlib.Core.List.{List, _∷_, _++_, List·Memᴰ, List·Memᴰ·head, List·Memᴰ·tail, List·Memᴰ·cases-cons, List·Memᴰ·not-nil, Memᴰ·append-left, Memᴰ·append-right}
 use native.Mathlib.Decide.{decLt}
 use native.Mathlib.Omega.{arith}
 use lib.Dec.{eqb}
 use lib.ListN.{length, getD}
-use lib.Seq.{length-take-le}
 use Rattle.laws.specs.Counting.{count, Different}
 use Rattle.laws.proofs.PlacesLaws.{getD-mem, at-places}
 use Rattle.laws.proofs.CountLaws.{count-append, mem-count, count-mem, count-within, different-once}
@@ -17,7 +16,7 @@ use Rattle.page.specs.PageSize.{IsPageSize, capacity}
 use Rattle.page.specs.Pages.{pageCount, pageAt, Write}
 use Rattle.page.proofs.PagesLaws.{pageCount-fits}
 use Rattle.free_list.specs.ListPages.{prevOf, entriesOf}
-use Rattle.free_list.specs.Shape.{FreeList, isShape}
+use Rattle.free_list.specs.Shape.{FreeList}
 use Rattle.free_list.specs.StoredList.{Inside, StoredList}
 use Rattle.preallocate.specs.Plan.{Plan, planOf}
 use Rattle.preallocate.proofs.PlanLaws.{plan-kept}
@@ -28,7 +27,7 @@ use Rattle.finisher.proofs.NewShapeLaws.{new-shape}
 use Rattle.finisher.proofs.NewNumbersLaws.{count-new-pages}
 use Rattle.finisher.proofs.EncodedLaws.{encoded-long, decoded-before, decoded-entries}
 use Rattle.finisher.proofs.WrittenLaws.{written-old}
-use Rattle.finisher.proofs.FinishLaws.{Succeeds, finish-cases}
+use Rattle.finisher.proofs.FinishLaws.{list-shape, Succeeds, finish-cases}
 use Rattle.rollback.proofs.CallsLaws.{Free, OpenedOn}
 
 -- numbers that differ are counted once at most
@@ -85,11 +84,9 @@ module _ {s : ℕ} {v : Save} {freed : List ℕ} {f : Finished} (done : Succeeds
   written-whole size =
       let l = listOf v in
       let k = min (v .handed) (length (l .entries)) in
-      let shape : isShape (capacity s) (length (l .pages)) (length (l .entries)) ≡ true =
-      rw (length-take-le (v .P) (v .pageTable) (done .stands .pages-fit), length-take-le (v .L) (v .entryTable) (done .stands .entries-fit)) (done .stands .shape) in
       finish-cases done refl (λ (x : Finished). (w : Write) → List·Memᴰ w (x .written) → length (w .bytes) ≡ s) k refl (λ _ _ w m. absurd (List·Memᴰ·not-nil m))
       (λ changed. carried-all s l _ (λ (w : Write). length (w .bytes) ≡ s)
-      (λ i a b. encoded-long s size _ (new-shape (capacity s) l k freed (bumped v) (size .two-entries) shape (omega arith) changed) i b))
+      (λ i a b. encoded-long s size _ (new-shape (capacity s) l k freed (bumped v) (size .two-entries) (list-shape (done .stands)) (omega arith) changed) i b))
 
 -- ---- where it writes
 

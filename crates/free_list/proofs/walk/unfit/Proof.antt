@@ -9,7 +9,7 @@ returns : tie.Need-returns
 returns c = (rw (lt-leb 1 (c .before .args .entry) (omega (arith, c .if1 .taken))), omega arith)
 
 returns-2 : tie.Need-returns-2
-returns-2 c = (rw (le-leb 1 (c .before .before .args .entry) (omega (arith, c .before .if1 .left)), le-ltb _ _ (c .if2 .taken)), omega arith)
+returns-2 c = (rw (le-leb 1 (c .before .before .args .entry) (omega (arith, c .before .if1 .left)), le-ltb (c .before .before .args .entry) (c .before .before .args .count) (omega (arith, c .if2 .taken))), omega arith)
 
 returns-3 : tie.Need-returns-3
 returns-3 c = (rw (le-leb 1 (c .before .before .args .entry) (omega (arith, c .before .if1 .left)), lt-ltb _ _ (c .if2 .left)), omega arith)
