@@ -159,7 +159,8 @@ uint32_t mopsienna_finish(uint32_t bump, uint32_t length, uint64_t P, uint64_t L
  *
  *   out[0]  the total
  *   out[1]  how many of their numbers stand in the value's cell: the total, at most 15
- *   out[2]  the spare room: 4,092 times the total, less the size
+ *   out[2]  the spare room, which the value and the numbers on its pages leave: 4,092 times the
+ *           total, less the size, less 4 for each page after the 15th
  *
  * Refusals: 10 for a size of 0 or above MOPSIENNA_MAX_SIZE.
  */

@@ -335,13 +335,13 @@ int main(void) {
 
     total(1, 0, 1, 1, 4091);
     total(61380, 0, 15, 15, 0);
-    total(61381, 0, 16, 15, 4091);
-    total(65468, 0, 16, 15, 4);
-    total(65469, 0, 17, 15, 4095);
-    total(4243402, 0, 1038, 15, 4094);
-    total(4243403, 0, 1039, 15, 8185);
-    total(4243404, 0, 1039, 15, 8184);
-    total(MOPSIENNA_MAX_SIZE, 0, 131329, 15, 527356);
+    total(61381, 0, 16, 15, 4087);
+    total(65468, 0, 16, 15, 0);
+    total(65469, 0, 17, 15, 4087);
+    total(4243402, 0, 1038, 15, 2);
+    total(4243403, 0, 1039, 15, 4089);
+    total(4243404, 0, 1039, 15, 4088);
+    total(MOPSIENNA_MAX_SIZE, 0, 131329, 15, 2100);
     total(0, MOPSIENNA_SIZE, 0, 0, 0);
     total(MOPSIENNA_MAX_SIZE + 1, MOPSIENNA_SIZE, 0, 0, 0);
     total(UINT64_MAX, MOPSIENNA_SIZE, 0, 0, 0);

@@ -15,6 +15,12 @@ use nomt_plain::{Cell, Chunked, Values};
 use std::{fs::File, io, sync::Arc};
 
 impl Values for Plain {
+    const BODY_SIZE: usize = overflow::probe::BODY_SIZE;
+
+    fn total(size: u64) -> u64 {
+        overflow::probe::total_needed_pages(size as usize) as u64
+    }
+
     fn chunk_in(save: &Save, value: &[u8]) -> io::Result<Chunked> {
         let io = IoHandle::default();
         let (cell, total) = overflow::chunk(value, &save.0, &PagePool, &io)?;

@@ -1,5 +1,5 @@
 -- The text of a line is short, and document 01's example.
-use Prim.Native.Nat.{ℕ, suc, _+_, _*_, _-_, _^_, min, _≤_, _<_}
+use Prim.Native.Nat.{ℕ, suc, _+_, _^_, min, _≤_, _<_}
 use mathlib.Core.Path.{_≡_, refl}
 use mathlib.Core.Bool.{Bool, true, false, _&&_}
 use mathlib.Core.List.{List, [], _∷_, _++_, flatMap}
@@ -12,8 +12,9 @@ use Rattle.refusal.specs.Outcome.{answer, check}
 use Rattle.laws.proofs.Tests.{cond-cases, and-true}
 use Rattle.page.specs.PageSize.{pageSize}
 use Rattle.page.proofs.PageSizeLaws.{page-size}
-use Rattle.overflow.specs.Totals.{Total, maxSize, cellNumbers, body, rawPages, totalPages, totalOf, pageTotal}
-use Rattle.overflow.proofs.TotalsLaws.{total-small, total-tight}
+use Rattle.overflow.specs.Totals.{Total, maxSize, cellNumbers, rawPages, totalPages, spareRoom, totalOf, pageTotal}
+use Rattle.overflow.proofs.TotalsLaws.{total-small}
+use Rattle.overflow.proofs.SpareLaws.{spare-small}
 use Rattle.listing.specs.declared.line.Size.{Size}
 use Rattle.listing.specs.declared.line.Size.the-variants.{Bad, Bytes}
 use Rattle.listing.specs.Decimal.{isDigit, allDigits, decimalAfter, decimalOf, digitsUpTo}
@@ -33,9 +34,9 @@ unfolding outcomeText totalOf
 length-answer n h =
     let t : ℕ = totalPages pageSize n in
     let few : t < 10 ^ 10 = omega (arith, total-small n page-size) in
-    let spare : body pageSize * t - n < 10 ^ 10 = omega (arith, total-small n page-size, total-tight n page-size) in
+    let spare : spareRoom pageSize n t < 10 ^ 10 = omega (arith, spare-small n page-size) in
     simp length-append
-    (omega (arith, length-number 9 t few, length-number 1 (min t cellNumbers) (omega arith), length-number 9 (body pageSize * t - n) spare))
+    (omega (arith, length-number 9 t few, length-number 1 (min t cellNumbers) (omega arith), length-number 9 (spareRoom pageSize n t) spare))
 
 length-check : (b : Bool) (t : Total) → length (outcomeText (answer t)) ≤ 25 → length (outcomeText (check b 10 [] (answer t))) ≤ 25
 unfolding outcomeText numberText digitsUpTo
@@ -61,10 +62,10 @@ length-line line =
         let most : 10 ^ (0 + length line) ≤ 10 ^ 9 = pow-le-pow-right {n = 10} (omega arith) {i = 0 + length line} {j = 9} (omega arith) in
         length-size (decimalOf line) (omega (arith, decimal-bound line 0 0 (omega arith) (both .1)))
 
--- ---- document 01's example
+-- ---- document 01's example, with document 02's spare room
 
 -- `1`, `61381`, `0`, `7a`, the last without its newline
 example : listing pageSize (49 ∷ 10 ∷ 54 ∷ 49 ∷ 51 ∷ 56 ∷ 49 ∷ 10 ∷ 48 ∷ 10 ∷ 55 ∷ 97 ∷ [])
-    ≡ header ++ (49 ∷ 32 ∷ 49 ∷ 32 ∷ 49 ∷ 32 ∷ 52 ∷ 48 ∷ 57 ∷ 49 ∷ 10 ∷ 54 ∷ 49 ∷ 51 ∷ 56 ∷ 49 ∷ 32 ∷ 49 ∷ 54 ∷ 32 ∷ 49 ∷ 53 ∷ 32 ∷ 52 ∷ 48 ∷ 57 ∷ 49 ∷ 10 ∷ 48 ∷ 32 ∷ 114 ∷ 101 ∷ 102 ∷ 117 ∷ 115 ∷ 101 ∷ 100 ∷ 32 ∷ 49 ∷ 48 ∷ 10 ∷ 98 ∷ 97 ∷ 100 ∷ 10 ∷ [])
-unfolding maxSize isDigit allDigits decimalAfter digitsUpTo rawPages totalPages totalOf pageTotal linesAfter sizeOf numberText outcomeText sizeText lineText listing flatMap
+    ≡ header ++ (49 ∷ 32 ∷ 49 ∷ 32 ∷ 49 ∷ 32 ∷ 52 ∷ 48 ∷ 57 ∷ 49 ∷ 10 ∷ 54 ∷ 49 ∷ 51 ∷ 56 ∷ 49 ∷ 32 ∷ 49 ∷ 54 ∷ 32 ∷ 49 ∷ 53 ∷ 32 ∷ 52 ∷ 48 ∷ 56 ∷ 55 ∷ 10 ∷ 48 ∷ 32 ∷ 114 ∷ 101 ∷ 102 ∷ 117 ∷ 115 ∷ 101 ∷ 100 ∷ 32 ∷ 49 ∷ 48 ∷ 10 ∷ 98 ∷ 97 ∷ 100 ∷ 10 ∷ [])
+unfolding maxSize isDigit allDigits decimalAfter digitsUpTo rawPages totalPages spareRoom totalOf pageTotal linesAfter sizeOf numberText outcomeText sizeText lineText listing flatMap
 example = refl

@@ -13,3 +13,4 @@ pub mod AdmitLaws
 pub mod ReadLaws
 pub mod LocalLaws
 pub mod ReadBackLaws
+pub mod SpareLaws

@@ -1,5 +1,5 @@
 -- What is shown of written values, at pages of s bytes.
-use Prim.Native.Nat.{ℕ, _+_, _<_, _≤_}
+use Prim.Native.Nat.{ℕ, zero, suc, _+_, _*_, _-_, _<_, _≤_}
 use mathlib.Core.Path.{_≡_}
 use mathlib.Core.Bool.{cond}
 use mathlib.Core.List.{List, []}
@@ -8,7 +8,7 @@ use lib.ListN.{length}
 use lib.Seq.{sets}
 use Rattle.refusal.specs.Outcome.{answer, refused}
 use Rattle.refusal.specs.Effect.{effect}
-use Rattle.overflow.specs.Totals.{maxSize, totalPages}
+use Rattle.overflow.specs.Totals.{maxSize, body, totalPages, Total, pageTotal}
 use Rattle.overflow.specs.ValuePages.{numberCount, byteCount, valuePage, chunkInto}
 use Rattle.overflow.specs.Cells.{hashSize, cellBytes}
 use Rattle.overflow.specs.Reading.{readValueInto, deleteInto}
@@ -24,6 +24,30 @@ PageForEach s = (value numbers page : List ℕ) (i : ℕ) → 1 ≤ length value
 abbrev pub NoneEmpty : ℕ → Type 0
 NoneEmpty s = (value numbers : List ℕ) (i : ℕ) → length numbers ≡ totalPages s (length value) → i < totalPages s (length value)
     → let page = valuePage s (totalPages s (length value)) value numbers i in 1 ≤ numberCount page + byteCount page
+
+-- what a page leaves behind its two counts, its numbers and its value bytes
+unfoldable pub leftOn : List ℕ → ℕ
+leftOn page = length page - (4 + 4 * numberCount page + byteCount page)
+
+-- what the first n pages of a value leave together
+unfoldable pub leftOnPages : ℕ → ℕ → List ℕ → List ℕ → ℕ → ℕ
+leftOnPages s total value numbers zero = 0
+leftOnPages s total value numbers (suc n) = leftOnPages s total value numbers n + leftOn (valuePage s total value numbers n)
+
+-- the spare room that is told of a value's size is what the pages of the value leave
+abbrev pub SpareIsLeft : ℕ → Type 0
+SpareIsLeft s = (value numbers : List ℕ) (t : Total) → pageTotal s (length value) ≡ answer t → length numbers ≡ t .total
+    → t .spare ≡ leftOnPages s (t .total) value numbers (t .total)
+
+-- and no difference is cut off at 0: of each page, what it holds and what it leaves are its s bytes
+abbrev pub PageWhole : ℕ → Type 0
+PageWhole s = (value numbers : List ℕ) (i : ℕ) → length numbers ≡ totalPages s (length value)
+    → let page = valuePage s (totalPages s (length value)) value numbers i in
+    (length page ≡ s) × (4 + 4 * numberCount page + byteCount page + leftOn page ≡ s)
+
+-- and of all pages, the value, all numbers and the spare room are the pages' bodies and what the cell has of the numbers
+abbrev pub BodiesWhole : ℕ → Type 0
+BodiesWhole s = (size : ℕ) (t : Total) → pageTotal s size ≡ answer t → size + 4 * t .total + t .spare ≡ body s * t .total + 4 * t .cell
 
 -- a value whose pages a store holds is read by its cell, into any table and buffer that are long enough
 abbrev pub ReadsBack : ℕ → Type 0

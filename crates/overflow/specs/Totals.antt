@@ -2,7 +2,7 @@
 use Prim.Native.Nat.{ℕ, _+_, _*_, _-_, _/_, _^_, min}
 use mathlib.Core.Bool.{_&&_, _||_, cond}
 use mathlib.Core.List.{[]}
-use lib.Dec.{leb}
+use lib.Dec.{leb, ltb}
 use Rattle.refusal.specs.Outcome.{Outcome, answer, check}
 use Rattle.refusal.specs.Refusals.{refusal}
 use Rattle.overflow.specs.declared.total.Totalled.{Totalled}
@@ -31,6 +31,11 @@ totalPages s size =
     let m = size + 4 * (r - cellNumbers) - body s * r in
     cond (leb r cellNumbers || leb (r - cellNumbers) ((body s * r - size) / 4)) r (r + (m + (body s - 3)) / (body s - 4))
 
+-- what `total` pages leave of their bodies, behind the value's bytes and the numbers that the cell has no place for
+unfoldable pub spareRoom : ℕ → ℕ → ℕ → ℕ
+spareRoom s size total =
+    cond (ltb cellNumbers total) (body s * total - size - 4 * (total - cellNumbers)) (body s * total - size)
+
 -- the total, how many of the numbers go to the cell, and the spare room
 pub record Total : Type 0 where
   pub total : ℕ
@@ -38,7 +43,7 @@ pub record Total : Type 0 where
   pub spare : ℕ
 
 unfoldable pub totalOf : ℕ → ℕ → ℕ → Total
-totalOf s size total = record { total = total; cell = min total cellNumbers; spare = body s * total - size }
+totalOf s size total = record { total = total; cell = min total cellNumbers; spare = spareRoom s size total }
 
 -- the same of a size that a value can have, or refusal 10
 unfoldable pub pageTotal : ℕ → ℕ → Outcome Total

@@ -2,7 +2,7 @@
 ghost use mathlib.Core.Path.{_≡_};
 ghost use Prim.Native.Nat.{_≤_};
 ghost use Rattle.page.specs.PageSize.{IsPageSize, pageBytes};
-ghost use Rattle.overflow.specs.Totals.{maxSize, rawPages, totalPages, pageTotal, totalOutcome};
+ghost use Rattle.overflow.specs.Totals.{maxSize, rawPages, totalPages, spareRoom, pageTotal, totalOutcome};
 use page::least::least;
 use page::size::PageSize;
 use refusal::Refusal;
@@ -13,7 +13,7 @@ pub const MAX_OVERFLOW_VALUE_SIZE: usize = 0x2000_0000;
 // A cell holds the numbers of so many pages.
 pub const MAX_OVERFLOW_CELL_NODE_POINTERS: usize = 15;
 
-// The pages of a value: all of them, those whose numbers go to the cell, and the bytes of their bodies that are not the value's.
+// The pages of a value: all of them, those whose numbers go to the cell, and the spare room.
 pub struct PageTotal {
     pub total: usize,
     pub cell: usize,
@@ -39,7 +39,7 @@ pub fn page_total(page_size: PageSize, size: u64) -> Totalled
     let bytes = size as usize;
     let total = total_needed_pages(page_bytes, bytes);
     let cell = least(total, MAX_OVERFLOW_CELL_NODE_POINTERS);
-    let spare = (page_bytes - 4) * total - bytes;
+    let spare = spare_room(page_bytes, bytes, total);
     Totalled::Pages(PageTotal { total, cell, spare })
 }
 
@@ -67,6 +67,18 @@ pub(crate) fn total_needed_pages(page_size: usize, size: usize) -> usize
     }
     let missing = size + 4 * numbers - body * raw;
     raw + (missing + (body - 3)) / (body - 4)
+}
+
+// What the pages of a value leave of their bodies, behind its bytes and the numbers that the cell has no place for.
+fn spare_room(page_size: usize, size: usize, total: usize) -> usize
+    requires { ⌜ IsPageSize «page_size» × (size ≤ maxSize «page_size») × (total ≡ totalPages «page_size» size) ⌝ }
+    ensures { λ r. ⌜ r ≡ spareRoom «page_size» size total ⌝ }
+{
+    let left = (page_size - 4) * total - size;
+    if total <= MAX_OVERFLOW_CELL_NODE_POINTERS {
+        return left;
+    }
+    left - 4 * (total - MAX_OVERFLOW_CELL_NODE_POINTERS)
 }
 
 // How many pages the bytes alone would take.

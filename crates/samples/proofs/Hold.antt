@@ -19,7 +19,7 @@ use Rattle.free_list.specs.Shape.{FreeList, isShape, isFragmented, entriesBelow
 use Rattle.preallocate.specs.Plan.{pagesFor, room as roomOf, pagesAfter, pushedAfter, firstPlan, nextPlan, enoughRoom, planOf}
 use Rattle.allocator.specs.OpenSave.{stateFits, nextNumber, nextRecorded, handOut, countUp}
 use Rattle.finisher.specs.Finish.{newList, encodedPage, encodedPages, carriedOut, finishList, firstBad, finishAnswer, tablesOf, finished, roomIn, finish as finishing, bytesOfPages, finishInto}
-use Rattle.overflow.specs.Totals.{maxSize, rawPages, totalPages, totalOf, pageTotal}
+use Rattle.overflow.specs.Totals.{maxSize, rawPages, totalPages, spareRoom, totalOf, pageTotal}
 use Rattle.overflow.specs.Layout.{numbersBefore, numbersOn, bytesBefore, bytesOn}
 use Rattle.overflow.specs.ValuePages.{encodeValuePage, valuePage, chunk, chunkInto}
 use Rattle.samples.specs.Samples.{old, list, save, room, finish, writes, value, write, writesBytes, Samples}
@@ -51,7 +51,7 @@ unfolding chunkInto
 page-of i bytes done long = rw (done, page-stands bytes long, long)
 
 pub samples : Samples
-unfolding numbersFrom numberAt numbersAt bytesOf bytesOfAll capacity pageCount pageAt prevOf countOf entriesOf encodeListPage countFits entriesFit readFrom listFrom readListInto isShape isFragmented entriesBelow entriesOn headOf pagesFor roomOf pagesAfter pushedAfter firstPlan nextPlan enoughRoom planOf stateFits nextNumber nextRecorded handOut countUp newList encodedPage encodedPages carriedOut finishList firstBad finishAnswer finished finishing bytesOfPages finishInto grow grown roundedUp maxSize rawPages totalPages totalOf pageTotal numbersBefore numbersOn bytesBefore bytesOn encodeValuePage valuePage chunk chunkInto
+unfolding numbersFrom numberAt numbersAt bytesOf bytesOfAll capacity pageCount pageAt prevOf countOf entriesOf encodeListPage countFits entriesFit readFrom listFrom readListInto isShape isFragmented entriesBelow entriesOn headOf pagesFor roomOf pagesAfter pushedAfter firstPlan nextPlan enoughRoom planOf stateFits nextNumber nextRecorded handOut countUp newList encodedPage encodedPages carriedOut finishList firstBad finishAnswer finished finishing bytesOfPages finishInto grow grown roundedUp maxSize rawPages totalPages spareRoom totalOf pageTotal numbersBefore numbersOn bytesBefore bytesOn encodeValuePage valuePage chunk chunkInto
 samples =
     record {
       grow-0 = refl;
@@ -70,6 +70,7 @@ samples =
       all-popped-second = refl;
       all-popped-third = refl;
       finish-all-popped = one-page (list (10 ∷ []) (20 ∷ [])) 30 3 [] 32 (10 ∷ []) _ 33 _ refl refl refl refl refl;
+      total-1 = refl;
       total-61380 = refl;
       total-61381 = refl;
       total-65468 = refl;

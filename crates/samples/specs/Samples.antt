@@ -1,6 +1,6 @@
 -- Document 01's marked samples at its page size, a row for each answer that they name. A row is about the definition that the operation's
 -- contract cites: what is answered, and every place of what is lent, after the call; bytes are written out. Two rows are sums: that a page
--- less would do.
+-- less would do. The spare room is as document 02 has it.
 use Prim.Native.Nat.{ℕ, _+_, _*_, _-_, _^_}
 use mathlib.Core.Path.{_≡_}
 use mathlib.Core.Bool.{false}
@@ -123,15 +123,16 @@ pub record Samples : Type 0 where
   pub all-popped-second : next (list (10 ∷ []) (20 ∷ [])) 30 1 ≡ handed 30 2
   pub all-popped-third : next (list (10 ∷ []) (20 ∷ [])) 30 2 ≡ handed 31 3
   pub finish-all-popped : finish (list (10 ∷ []) (20 ∷ [])) 30 3 [] ≡ writes 32 1 (page (0 ∷ 0 ∷ 0 ∷ 0 ∷ 1 ∷ 0 ∷ 10 ∷ 0 ∷ 0 ∷ 0 ∷ [])) 33 (tables (32 ∷ old ∷ []) (10 ∷ old ∷ old ∷ []))
+  pub total-1 : pageTotal pageSize 1 ≡ pages 1 1 4091
   pub total-61380 : pageTotal pageSize 61380 ≡ pages 15 15 0
-  pub total-61381 : pageTotal pageSize 61381 ≡ pages 16 15 4091
-  pub total-65468 : pageTotal pageSize 65468 ≡ pages 16 15 4
-  pub total-65469 : pageTotal pageSize 65469 ≡ pages 17 15 4095
-  pub total-4243402 : pageTotal pageSize 4243402 ≡ pages 1038 15 4094
-  pub total-4243403 : pageTotal pageSize 4243403 ≡ pages 1039 15 8185
-  pub total-4243404 : pageTotal pageSize 4243404 ≡ pages 1039 15 8184
+  pub total-61381 : pageTotal pageSize 61381 ≡ pages 16 15 4087
+  pub total-65468 : pageTotal pageSize 65468 ≡ pages 16 15 0
+  pub total-65469 : pageTotal pageSize 65469 ≡ pages 17 15 4087
+  pub total-4243402 : pageTotal pageSize 4243402 ≡ pages 1038 15 2
+  pub total-4243403 : pageTotal pageSize 4243403 ≡ pages 1039 15 4089
+  pub total-4243404 : pageTotal pageSize 4243404 ≡ pages 1039 15 4088
   pub total-4243403-less-would-do : body pageSize * 1038 ≡ 4243403 + 4 * (1038 - cellNumbers) + 1
   pub total-4243404-less-would-do : body pageSize * 1038 ≡ 4243404 + 4 * (1038 - cellNumbers)
-  pub total-largest : pageTotal pageSize (2 ^ 29) ≡ pages 131329 15 527356
+  pub total-largest : pageTotal pageSize (2 ^ 29) ≡ pages 131329 15 2100
   pub page-0-of-61381 : write 0 ≡ writesBytes (1 ∷ 0 ∷ 248 ∷ 15 ∷ 116 ∷ 0 ∷ 0 ∷ 0 ∷ replicate 4088 1)
   pub page-15-of-61381 : write 15 ≡ writesBytes (page (0 ∷ 0 ∷ 5 ∷ 0 ∷ 3 ∷ 3 ∷ 3 ∷ 3 ∷ 3 ∷ []))

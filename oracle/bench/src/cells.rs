@@ -8,9 +8,8 @@
 
 use crate::timing::{measured, Row, Work};
 use mopsienna_sys::{
-    total_into,
     values::{decode_cell_into, encode_cell, Hash},
-    UNTOUCHED,
+    Form, UNTOUCHED,
 };
 use nomt_4096::beatree::{
     allocator::PageNumber,
@@ -59,15 +58,16 @@ fn repeated(mut call: impl FnMut() + 'static) -> Work {
 fn rust_total(size: u64) -> [u64; 3] {
     let total = total_needed_pages(size as usize);
     let in_cell = total.min(NUMBERS.len());
-    [total, in_cell, BODY_SIZE * total - size as usize].map(|number| number as u64)
+    let spare = BODY_SIZE * total - size as usize - 4 * (total - in_cell);
+    [total, in_cell, spare].map(|number| number as u64)
 }
 
 fn totalling(size: u64) -> (Work, Work) {
     let mut out = UNTOUCHED;
-    assert_eq!(total_into(size, &mut out), 0);
+    assert_eq!(Form::Fixed.total_into(size, &mut out), 0);
     assert!(out[..3] == rust_total(size));
     let ours = repeated(move || {
-        black_box(total_into(black_box(size), &mut out));
+        black_box(Form::Fixed.total_into(black_box(size), &mut out));
         black_box(&mut out);
     });
     let theirs = repeated(move || {

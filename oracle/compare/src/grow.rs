@@ -32,8 +32,9 @@ pub fn compare(plan: &Plan, library: impl Fn(u32) -> Reply) -> io::Result<Report
     let rust = Rust::new()?;
     let mut report = Report::new("grow");
     let mut check = |page: u32| -> io::Result<()> {
+        let text = || format!("page {page}");
         if page > LAST_PAGE {
-            report.class(PAST_LAST, rust.past_last(page)?, || format!("page {page}"));
+            report.class(PAST_LAST, rust.past_last(page)?, text);
         }
         for expected in rust.expected(page)? {
             let rest = page % STEP;
@@ -44,7 +45,7 @@ pub fn compare(plan: &Plan, library: impl Fn(u32) -> Reply) -> io::Result<Report
                 8,
                 || Line::new(Kind::Grow).number(page).reply(&expected),
             );
-            report.check(page.into(), &expected, &library(page));
+            report.check(page.into(), &expected, &library(page), text);
         }
         Ok(())
     };

@@ -32,13 +32,14 @@ pub const SAVES: [&str; 3] = [
     "read_list in histories",
 ];
 
-pub const VALUES: [&str; 6] = [
+pub const VALUES: [&str; 7] = [
     "write_value_page in histories",
     "encode_cell in histories",
     "decode_cell in histories",
     "read_value in histories",
     "delete_value in histories",
     "lookup in histories",
+    "total in histories",
 ];
 
 /// The replies that have to be reached, by report: those of a host that lends too little or frees
@@ -48,12 +49,13 @@ const SAVE_REPLIES: [&[u32]; 3] = [
     &[0, save_model::TABLES, save_model::FREED, save_model::BUFFER],
     &[0],
 ];
-const VALUE_REPLIES: [&[u32]; 6] = [
+const VALUE_REPLIES: [&[u32]; 7] = [
     &[0, value_model::BUFFER, value_model::INDEX],
     &[0, value_model::ROOM],
     &[0],
     &[0, value_model::ROOM],
     &[0, value_model::ROOM],
+    &[0],
     &[0],
 ];
 
@@ -92,7 +94,7 @@ pub fn compare(
     plan: &Plan,
     saves: &dyn saves::Library,
     values: &dyn values::Library,
-) -> io::Result<([Report; 3], [Report; 6])> {
+) -> io::Result<([Report; 3], [Report; 7])> {
     let recorder = Recorder::default();
     let mut comparison = Comparison {
         saves: saves::Comparison::new(saves, &recorder, SAVES),
@@ -140,7 +142,7 @@ impl Comparison<'_> {
     }
 
     /// Adds what was reached, and a disagreement for everything that was not.
-    fn finish(self) -> ([Report; 3], [Report; 6]) {
+    fn finish(self) -> ([Report; 3], [Report; 7]) {
         let mut saves = self.saves.finish(SAVE_REPLIES);
         let report = &mut saves[saves::FINISH];
         for (at, event) in EVENTS.into_iter().enumerate() {

@@ -15,6 +15,7 @@ mod self_test;
 mod totals;
 mod values;
 
+use mopsienna_sys::Form;
 use record::Recorder;
 use report::text_of;
 use std::{collections::BTreeMap, env, io, ops::RangeInclusive, process::ExitCode};
@@ -86,7 +87,7 @@ fn compare(plan: &Plan) -> io::Result<bool> {
     );
     let operations: [&dyn Fn() -> io::Result<Vec<report::Report>>; 6] = [
         &|| Ok(vec![grow::compare(plan, mopsienna_sys::grow)?]),
-        &|| Ok(vec![totals::compare(plan, mopsienna_sys::total)]),
+        &|| Ok(vec![totals::compare(plan, Form::total)]),
         &|| Ok(vec![lists::compare(plan, &saves::Linked)?]),
         &|| Ok(saves::compare(plan, &saves::Linked)?.into()),
         &|| Ok(values::compare(plan, &values::Linked)?.into()),

@@ -35,10 +35,17 @@ impl Report {
         }
     }
 
-    /// Counts a call whose input is a number, and compares what it gave, every place of it.
-    pub fn check(&mut self, input: u64, expected: &Reply, got: &Reply) {
+    /// Counts a call whose input is a number, and compares what it gave, every place of it. `text`
+    /// tells what went in.
+    pub fn check(
+        &mut self,
+        input: u64,
+        expected: &Reply,
+        got: &Reply,
+        text: impl FnOnce() -> String,
+    ) {
         self.count(input, expected, got == expected, || {
-            format!("{input}: expected {expected}, got {got}")
+            format!("{}: expected {expected}, got {got}", text())
         });
     }
 

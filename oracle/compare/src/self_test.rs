@@ -8,11 +8,11 @@ use crate::{
     report::Report,
     saves::{self, FINISH, HAND_OUT, READ_BACK},
     totals,
-    values::{self, DECODE, DELETE, ENCODE, LOOKUP, READ, WRITE},
+    values::{self, DECODE, DELETE, ENCODE, LOOKUP, READ, TOTAL, WRITE},
     Plan,
 };
 use changed::Changed;
-use mopsienna_sys::{self as library, Reply};
+use mopsienna_sys::{self as library, Form, Reply};
 use std::{io, ops::Range};
 
 /// The parts of a reply: its places, and its number after them.
@@ -58,15 +58,29 @@ fn numbers(plan: &Plan, tally: &mut Tally) -> io::Result<()> {
             })?;
             tally.count(input.into(), part, &report);
         }
-        for input in [61_381, totals::MAX_SIZE, totals::MAX_SIZE + 1] {
-            let report = totals::compare(plan, |size| {
-                changed_if(size == input, part, library::total(size))
+        for (form, input) in TOTALS {
+            let report = totals::compare(plan, |at, size| {
+                changed_if((at, size) == (form, input), part, at.total(size))
             });
             tally.count(input, part, &report);
         }
     }
     Ok(())
 }
+
+/// The totals that are changed: of libmopsienna around its limits, of libsized one at each page size.
+const TOTALS: [(Form, u64); 10] = [
+    (Form::Fixed, 61_381),
+    (Form::Fixed, totals::MAX_SIZE),
+    (Form::Fixed, totals::MAX_SIZE + 1),
+    (Form::Sized(16), totals::MAX_SIZE),
+    (Form::Sized(20), 61_381),
+    (Form::Sized(24), 61_381),
+    (Form::Sized(28), 61_381),
+    (Form::Sized(32), 61_381),
+    (Form::Sized(1024), totals::MAX_SIZE + 1),
+    (Form::Sized(4096), 61_381),
+];
 
 /// The parts that are changed of reading a list: of the two tables, the first and the last place.
 const LIST_PARTS: Range<usize> = 0..PARTS + 4;
@@ -81,13 +95,14 @@ const SAVE_PARTS: [(usize, Range<usize>); 3] = [
 
 /// The parts that are changed of each function of values. Writing pages and cells gives a number
 /// alone; of what is lent, it is the first and the last place of each.
-const VALUE_PARTS: [(usize, Range<usize>); 6] = [
+const VALUE_PARTS: [(usize, Range<usize>); 7] = [
     (WRITE, PARTS - 1..PARTS + 2),
     (ENCODE, PARTS - 1..PARTS + 2),
     (DECODE, 0..PARTS + 2),
     (READ, 0..PARTS + 4),
     (DELETE, 0..PARTS + 2),
     (LOOKUP, 0..PARTS),
+    (TOTAL, 0..PARTS),
 ];
 
 /// How many changes were made, and how many of them were not caught.

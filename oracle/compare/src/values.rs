@@ -1,10 +1,10 @@
 //! Values: writing their pages and cells, reading and deleting them; and page lookup. All but cells
 //! at several page sizes.
 //!
-//! What stands on a page and in a cell comes from the Rust. The Rust stops in other ways than the
-//! library, so what to expect of reading and deleting comes from a model of document 01. What the
-//! model reads or deletes the Rust has to read or delete in the same way; what it does with the rest
-//! is counted.
+//! What stands on a page and in a cell comes from the Rust, and so does what the pages leave, which
+//! `total` has to tell. The Rust stops in other ways than the library, so what to expect of reading
+//! and deleting comes from a model of document 01. What the model reads or deletes the Rust has to
+//! read or delete in the same way; what it does with the rest is counted.
 
 mod calls;
 pub mod case;
@@ -39,14 +39,16 @@ pub const DECODE: usize = 2;
 pub const READ: usize = 3;
 pub const DELETE: usize = 4;
 pub const LOOKUP: usize = 5;
+pub const TOTAL: usize = 6;
 
-pub const OPERATIONS: [&str; 6] = [
+pub const OPERATIONS: [&str; 7] = [
     "write_value_page",
     "encode_cell",
     "decode_cell",
     "read_value",
     "delete_value",
     "lookup",
+    "total of a written value",
 ];
 
 /// How much is compared.
@@ -59,7 +61,7 @@ pub enum Extent {
 }
 
 /// Compares the library's functions of values and of page lookup.
-pub fn compare(plan: &Plan, library: &dyn Library) -> io::Result<[Report; 6]> {
+pub fn compare(plan: &Plan, library: &dyn Library) -> io::Result<[Report; 7]> {
     let extent = match (plan.short, plan.count) {
         (true, 0..=10_000) => Extent::Least,
         (true, _) => Extent::Short,
@@ -92,7 +94,7 @@ pub fn compare(plan: &Plan, library: &dyn Library) -> io::Result<[Report; 6]> {
 pub struct Comparison<'a> {
     library: &'a dyn Library,
     recorder: &'a Recorder,
-    pub reports: [Report; 6],
+    pub reports: [Report; 7],
     /// What the cases at hand are called.
     pub group: String,
     /// By group: how many cases were read and deleted on both sides, and how many of them are a
@@ -101,7 +103,7 @@ pub struct Comparison<'a> {
 }
 
 /// The replies that have to be reached, by report.
-const REPLIES: [&[u32]; 6] = [
+const REPLIES: [&[u32]; 7] = [
     &[0, model::BUFFER, model::SIZE, model::INDEX],
     &[0, model::SIZE, model::ROOM],
     &[0, model::SIZE, model::CELL],
@@ -127,13 +129,14 @@ const REPLIES: [&[u32]; 6] = [
         model::NUMBERS,
     ],
     &[0, model::BUFFER, model::PAST_STORE],
+    &[0],
 ];
 
 impl<'a> Comparison<'a> {
     pub fn new(
         library: &'a dyn Library,
         recorder: &'a Recorder,
-        operations: [&'static str; 6],
+        operations: [&'static str; 7],
     ) -> Comparison<'a> {
         Comparison {
             library,
@@ -184,7 +187,7 @@ impl<'a> Comparison<'a> {
     }
 
     /// Adds what was reached, and a disagreement for each of these replies that was not.
-    pub fn finish(mut self, replies: [&[u32]; 6]) -> [Report; 6] {
+    pub fn finish(mut self, replies: [&[u32]; 7]) -> [Report; 7] {
         for (report, numbers) in self.reports.iter_mut().zip(replies) {
             report.reached(numbers);
         }

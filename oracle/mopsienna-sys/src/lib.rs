@@ -1,6 +1,6 @@
 //! The C functions of libmopsienna and libsized, each as a safe function.
 //!
-//! The functions of libsized are those of lists, saves and values at any page size. What both
+//! The functions of libsized are those of totals, lists, saves and values at any page size. What both
 //! libraries have is declared once, and is a method of [`Form`].
 
 mod form;
@@ -75,10 +75,10 @@ impl fmt::Display for Reply {
 
 extern "C" {
     fn mopsienna_grow(page: u32, out: &mut Out) -> u32;
-    fn mopsienna_total(size: u64, out: &mut Out) -> u32;
 }
 
 in_both! {
+    fn total(size: u64, out: &mut Out) -> u32;
     fn read_list(
         store: *const u8,
         store_len: usize,
@@ -147,20 +147,22 @@ pub fn grow(page: u32) -> Reply {
     Reply::of(|out| unsafe { mopsienna_grow(page, out) })
 }
 
-/// Answers the total of pages, the numbers in the cell and the spare room.
-pub fn total(size: u64) -> Reply {
-    Reply::of(|out| total_into(size, out))
-}
-
-/// The same into places that are there already: 0 or the refusal's number.
-#[inline]
-pub fn total_into(size: u64, out: &mut Out) -> u32 {
-    // SAFETY: the function writes only to the eight places of `out`.
-    unsafe { mopsienna_total(size, out) }
-}
-
-/// Lists and saves. All is inlined, so that where the form is known it costs nothing to choose.
+/// Totals, lists and saves. All is inlined, so that where the form is known it costs nothing to
+/// choose.
 impl Form {
+    /// Answers the total of pages, the numbers in the cell and the spare room.
+    #[inline]
+    pub fn total(self, size: u64) -> Reply {
+        Reply::of(|out| self.total_into(size, out))
+    }
+
+    /// The same into places that are there already: 0 or the refusal's number.
+    #[inline]
+    pub fn total_into(self, size: u64, out: &mut Out) -> u32 {
+        // SAFETY: the function writes only to the eight places of `out`.
+        unsafe { call!(self, total(size, out)) }
+    }
+
     /// Reads a list into the two tables. Answers how many pages and entries it has.
     #[inline]
     pub fn read_list(

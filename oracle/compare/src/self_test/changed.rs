@@ -3,7 +3,7 @@
 use super::{changed_if, PARTS};
 use crate::{
     saves::{self, FINISH, HAND_OUT, READ_BACK},
-    values::{self, DECODE, DELETE, ENCODE, LOOKUP, READ, WRITE},
+    values::{self, model::CELL_NUMBERS, DECODE, DELETE, ENCODE, LOOKUP, READ, TOTAL, WRITE},
 };
 use mopsienna_sys::{
     values::{decode_cell, encode_cell, Hash},
@@ -21,7 +21,7 @@ pub struct Changed {
     change: Option<(u64, usize)>,
     calls: Cell<u64>,
     /// For each number that a call of the operation gives, the first such call that was lent
-    /// places of everything.
+    /// places of everything; of totals, the first with more pages than a cell has numbers for.
     pub first: RefCell<BTreeMap<u32, u64>>,
 }
 
@@ -35,20 +35,20 @@ impl Changed {
         }
     }
 
-    /// The reply, with what is to be changed of it. `lent` tells whether everything lent has
-    /// places, and `change` changes one of them.
+    /// The reply, with what is to be changed of it. `wanted` tells whether the call may be the first
+    /// of its number, and `change` changes one of the places lent.
     fn pass(
         &self,
         operation: usize,
         reply: Reply,
-        lent: bool,
+        wanted: bool,
         change: impl FnOnce(usize),
     ) -> Reply {
         if operation != self.operation {
             return reply;
         }
         let call = self.calls.replace(self.calls.get() + 1);
-        if lent {
+        if wanted {
             self.first.borrow_mut().entry(reply.number).or_insert(call);
         }
         match self.change.filter(|change| change.0 == call) {
@@ -103,6 +103,12 @@ impl saves::Library for Changed {
 }
 
 impl values::Library for Changed {
+    fn total(&self, form: Form, size: u64) -> Reply {
+        let reply = form.total(size);
+        let past_cell = reply.out[0] > CELL_NUMBERS as u64;
+        self.pass(TOTAL, reply, past_cell, |_| ())
+    }
+
     fn write_value_page(
         &self,
         form: Form,

@@ -1,9 +1,9 @@
-//! Calls of the library beside what is expected of them: writing pages, cells, and numbers past the
-//! greatest page size.
+//! Calls of the library beside what is expected of them: writing pages, what these leave, cells, and
+//! numbers past the greatest page size.
 
 use super::{
     lent::{numbers_text, untouched_bytes, untouched_numbers},
-    model, Comparison, Library, Linked, DECODE, DELETE, ENCODE, LOOKUP, READ, WRITE,
+    model, Comparison, Library, Linked, DECODE, DELETE, ENCODE, LOOKUP, READ, TOTAL, WRITE,
 };
 use crate::{
     panics::unless_panic,
@@ -11,7 +11,7 @@ use crate::{
     report::difference,
 };
 use mopsienna_sys::{values::Hash, Form, Reply};
-use nomt_plain::Values;
+use nomt_plain::{Chunked, Values};
 
 /// The hash before a call.
 pub const UNTOUCHED_HASH: Hash = [0xA5; 32];
@@ -58,6 +58,10 @@ impl Comparison<'_> {
             let expected = Linked.lookup(greatest, &[], &[], &store, 1);
             let got = self.library.lookup(form, &[], &[], &store, 1);
             self.reports[LOOKUP].compare(&expected, &got, true, text);
+
+            let expected = Linked.total(greatest, size.into());
+            let got = self.library.total(form, size.into());
+            self.reports[TOTAL].compare(&expected, &got, true, text);
         }
     }
 
@@ -112,6 +116,21 @@ impl Comparison<'_> {
                 numbers_text(numbers),
                 difference("page", &expected, &got),
             )
+        });
+    }
+
+    /// The total of a value beside the pages that the Rust wrote of it: how many there are, how many
+    /// of their numbers are in the cell, and what they leave.
+    pub fn total<R: Values>(&mut self, form: Form, size: usize, chunked: &Chunked) {
+        let pages = &chunked.pages;
+        let expected = Reply::answer(&[
+            pages.len() as u64,
+            chunked.cell.len() as u64,
+            pages.iter().map(|(_, page)| left(page)).sum(),
+        ]);
+        let got = self.library.total(form, size as u64);
+        self.reports[TOTAL].compare(&expected, &got, true, || {
+            format!("page size {}, size {size}", R::PAGE_SIZE)
         });
     }
 
@@ -207,4 +226,11 @@ impl Comparison<'_> {
             format!("{}{}", text(), difference("hash", &expected, &hash))
         });
     }
+}
+
+/// How many bytes a value's page leaves behind its header, numbers and value bytes, by the two counts
+/// in the header.
+fn left(page: &[u8]) -> u64 {
+    let count = |at| usize::from(u16::from_le_bytes([page[at], page[at + 1]]));
+    page[4 + 4 * count(0) + count(2)..].len() as u64
 }

@@ -30,6 +30,7 @@ pub fn largest<R: Values>(
 
     let chunked = R::chunk(&value, &numbers)?;
     let cell = R::encode_cell(MAX_SIZE as u64, hash, &chunked.cell);
+    comparison.total::<R>(form, MAX_SIZE, &chunked);
     for (index, (page, bytes)) in chunked.pages.iter().enumerate() {
         let (index, length) = (index as u64, R::PAGE_SIZE + 1);
         comparison.write::<R>(form, &value, &numbers, index, length, &chunked.pages);

@@ -6,6 +6,8 @@ use mopsienna_sys::{
 };
 
 pub trait Library {
+    fn total(&self, form: Form, size: u64) -> Reply;
+
     fn write_value_page(
         &self,
         form: Form,
@@ -38,6 +40,10 @@ pub trait Library {
 pub struct Linked;
 
 impl Library for Linked {
+    fn total(&self, form: Form, size: u64) -> Reply {
+        form.total(size)
+    }
+
     fn write_value_page(
         &self,
         form: Form,

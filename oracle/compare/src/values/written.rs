@@ -109,8 +109,8 @@ fn write<R: Values>(
     Ok(())
 }
 
-/// The library's pages and cell of a value beside those of the Rust. Gives the cell, unless the Rust
-/// takes other numbers.
+/// The library's total, pages and cell of a value beside those of the Rust. Gives the cell, unless the
+/// Rust takes other numbers.
 pub fn compare<R: Values>(
     comparison: &mut Comparison,
     form: Form,
@@ -129,6 +129,7 @@ pub fn compare<R: Values>(
         return None;
     }
 
+    comparison.total::<R>(form, size, chunked);
     let page = R::PAGE_SIZE;
     for index in 0..numbers.len() as u64 {
         let length = random.pick(&[page, page, page + 1, page + 7, 2 * page]);

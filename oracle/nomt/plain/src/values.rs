@@ -23,6 +23,12 @@ pub struct Cell {
 
 /// The Rust's values at one page size.
 pub trait Values: Rust {
+    /// How many bytes a value's page has beside its header.
+    const BODY_SIZE: usize;
+
+    /// How many pages the Rust counts for a value of this size.
+    fn total(size: u64) -> u64;
+
     /// The pages of a value, from a store that hands out these numbers.
     fn chunk(value: &[u8], numbers: &[u32]) -> io::Result<Chunked> {
         // Numbers are handed out from the end of the list.
