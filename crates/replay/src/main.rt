@@ -1,6 +1,6 @@
 // Makes calls that were recorded with their answers, and compares what they give now.
 //
-// Each line of standard input is one call: its kind, what goes in and what has to come out, as the crate `recorded` says of each.
+// Each line of standard input is one call: its kind, what goes in and what has to come out, as the crate `replayed` says of each.
 ghost use Rattle.io.specs.Counts.{Counts};
 use libc::STDIN_FILENO;
 use libc::STDOUT_FILENO;
