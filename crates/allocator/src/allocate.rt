@@ -1,6 +1,5 @@
 // Handing out a number.
 ghost use Rattle.std.specs.Prelude.{◌≡◌, ◌+◌, ◌^◌, ◌<◌, ◌≤◌};
-ghost use Rattle.refusal.specs.Effect.{before};
 ghost use Rattle.page.specs.PageSize.{page_bytes};
 ghost use Rattle.page.specs.Growth.{max_bump};
 ghost use Rattle.allocator.specs.OpenSave.{count_up};
@@ -13,14 +12,14 @@ use page::size::PageSize;
 use refusal::Refusal;
 
 // The number handed out, or a refusal.
-#[derive(Drop)]
+#[derive(Clone, Copy)]
 pub enum HandedOut {
     Number(PageNumber),
     Refused(Refusal),
 }
 
 // The answer, and the open save after it.
-#[derive(Drop)]
+#[derive(Clone, Copy)]
 pub struct Handed {
     pub answer: HandedOut,
     pub open: OpenSave,
@@ -34,7 +33,7 @@ pub fn allocate(
     pages: &[u32],
     entries: &[u32],
 ) -> Handed
-    ensures { handed_effect result ≡ count_up (page_bytes page_size) (save_of start «open» (before pages) (before entries)) }
+    ensures { handed_effect result ≡ count_up (page_bytes page_size) (save_of start «open» pages.now entries.now) }
 {
     let page_bytes = page_size.bytes();
     if !state_fits(page_bytes, start, pages, entries) {

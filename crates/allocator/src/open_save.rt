@@ -3,7 +3,7 @@
 // `OpenSave::hand_out` and `hand_out`, which lends a save of its own, are proved by hand. Whoever calls `hand_out` needs no such proof: its
 // parameters are plain.
 ghost use Rattle.std.specs.Prelude.{◌≡◌};
-ghost use Rattle.refusal.specs.Effect.{before, effect};
+ghost use Rattle.refusal.specs.Effect.{effect};
 ghost use Rattle.page.specs.PageSize.{page_bytes};
 ghost use Rattle.allocator.specs.OpenSave.{count_up};
 ghost use Rattle.allocator.specs.Answers.{save_of, handed_outcome, counters_of, handed_effect};
@@ -21,7 +21,7 @@ impl OpenSave {
         pages: &[u32],
         entries: &[u32],
     ) -> HandedOut
-        ensures { effect (handed_outcome result) (counters_of self.new) ≡ count_up (page_bytes page_size) (save_of start self.old (before pages) (before entries)) }
+        ensures { effect (handed_outcome result) (counters_of self.new) ≡ count_up (page_bytes page_size) (save_of start self.old pages.now entries.now) }
     {
         let after = allocate(page_size, start, *self, pages, entries);
         *self = after.open;
@@ -37,7 +37,7 @@ pub fn hand_out(
     pages: &[u32],
     entries: &[u32],
 ) -> Handed
-    ensures { handed_effect result ≡ count_up (page_bytes page_size) (save_of start «open» (before pages) (before entries)) }
+    ensures { handed_effect result ≡ count_up (page_bytes page_size) (save_of start «open» pages.now entries.now) }
 {
     let mut lent = open;
     let answer = lent.hand_out(page_size, start, pages, entries);

@@ -1,6 +1,5 @@
 // An open save, beside the two lent tables of its list: what it started from, and what is counted up.
 ghost use Rattle.std.specs.Prelude.{◌≡◌, ◌≤◌};
-ghost use Rattle.refusal.specs.Effect.{before};
 ghost use Rattle.page.specs.PageSize.{IsPageSize};
 ghost use Rattle.page.specs.Growth.{max_bump, grown};
 ghost use Rattle.free_list.specs.Shape.{is_shape};
@@ -13,7 +12,7 @@ use page::growth::{Grown, MAX_BUMP, grow};
 use page::number::{Allocations, PageNumber};
 
 // What a save starts from, which stays as it is.
-#[derive(Drop)]
+#[derive(Clone, Copy)]
 pub struct Start {
     // The next page number past the store.
     pub bump: u32,
@@ -23,7 +22,7 @@ pub struct Start {
 }
 
 // What is counted up as numbers are handed out.
-#[derive(Drop)]
+#[derive(Clone, Copy)]
 pub struct OpenSave {
     // How many numbers were handed out.
     pub allocations: Allocations,
@@ -32,7 +31,7 @@ pub struct OpenSave {
 }
 
 // Both together.
-#[derive(Drop)]
+#[derive(Clone, Copy)]
 pub struct Save {
     pub start: Start,
     pub open: OpenSave,
@@ -55,7 +54,7 @@ pub(crate) fn shape_fits(c: usize, pages: usize, entries: usize) -> bool
 // Whether a save that starts so can go on, whatever was counted.
 pub fn state_fits(page_size: usize, start: Start, pages: &[u32], entries: &[u32]) -> bool
     requires { IsPageSize page_size }
-    ensures { (v : OpenSave) → result ≡ state_fits page_size (save_of start v (before pages) (before entries)) }
+    ensures { (v : OpenSave) → result ≡ state_fits page_size (save_of start v pages.now entries.now) }
 {
     let shape = shape_fits(max_pns_per_page(page_size), start.pages, start.entries);
     1 <= start.bump

@@ -1,6 +1,6 @@
 -- How a store grows, and how many pages a value takes.
 use Rattle.std.specs.Prelude.{ℕ, ◌≡◌, List, [], ◌∷◌}
-use Rattle.refusal.specs.Effect.{Lent, before, nothing, effect, called, left}
+use Rattle.refusal.specs.Effect.{LentMut, before, nothing, effect, called, left}
 use Rattle.page.specs.Growth.{grow}
 use Rattle.page.specs.PageSize.{page_bytes}
 use Rattle.page.specs.declared.size.PageSize.{PageSize}
@@ -10,12 +10,12 @@ use Rattle.overflow.specs.Totals.{Total, page_total}
 abbrev pub grow_values : ℕ → List ℕ
 grow_values length = length ∷ []
 
-abbrev pub Grows : ℕ → Lent → ℕ → Type 0
+abbrev pub Grows : ℕ → LentMut → ℕ → Type 0
 Grows page out r = left r out nothing ≡ called grow_values (before out) (effect (grow page) nothing)
 
 -- total, numbers in the cell, spare room
 abbrev pub total_values : Total → List ℕ
 total_values t = t.total ∷ t.cell ∷ t.spare ∷ []
 
-abbrev pub TellsTotal : PageSize → ℕ → Lent → ℕ → Type 0
+abbrev pub TellsTotal : PageSize → ℕ → LentMut → ℕ → Type 0
 TellsTotal z size out r = left r out nothing ≡ called total_values (before out) (effect (page_total (page_bytes z) size) nothing)

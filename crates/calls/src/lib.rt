@@ -2,6 +2,8 @@
 // go to `out`, whose other places stay as they were. The interfaces above only choose the page size.
 //
 // `specs/` says of each function what it leaves: what it returns, its `out`, and everything that was lent to it.
+#![tactic(auto)]
+
 pub mod lists;
 pub mod lookups;
 pub mod saves;

@@ -2,7 +2,7 @@
 use Rattle.std.specs.Prelude.{ℕ, zero, suc, ◌*◌, ◌-◌, min, ◌&&◌, cond, List, [], ◌∷◌, ◌++◌, map, leb, ltb, eqb, length, get_or, take}
 use Rattle.std.proofs.lemmas.List.Edits.{sets}
 use Rattle.refusal.specs.Outcome.{Outcome, answer, check}
-use Rattle.refusal.specs.Effect.{Lent, Effect, leaves}
+use Rattle.refusal.specs.Effect.{LentMut, Effect, leaves}
 use Rattle.page.specs.PageSize.{capacity}
 use Rattle.page.specs.Pages.{page_at, Write}
 use Rattle.page.specs.Growth.{max_bump, grown}
@@ -128,10 +128,10 @@ abbrev pub room_in : FinishRoom → RoomLent
 room_in room = record { bytes = length room.buffer; numbers = length room.numbers }
 
 -- as they are before or after the call
-abbrev pub finish_room : (Lent → List ℕ) → Lent → Lent → FinishRoom
+abbrev pub finish_room : (LentMut → List ℕ) → LentMut → LentMut → FinishRoom
 finish_room at buffer numbers = record { buffer = at buffer; numbers = at numbers }
 
-abbrev pub finish_lent : (Lent → List ℕ) → Lent → Lent → Lent → Lent → FinishLent
+abbrev pub finish_lent : (LentMut → List ℕ) → LentMut → LentMut → LentMut → LentMut → FinishLent
 finish_lent at pages entries buffer numbers = record { tables = tables at pages entries; room = finish_room at buffer numbers }
 
 -- the tables hold the new list, the buffer and the number list the pages as encoded

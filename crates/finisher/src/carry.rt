@@ -26,7 +26,7 @@ pub(crate) fn carry_out(
     numbers: &mut [u32],
 )
     requires { Goes page_size (save_with save pages.old entries.old) freed.now work buffer.old numbers.old }
-    ensures { finish_lent after pages entries buffer numbers ≡ carried page_size save (before freed) (finish_lent before pages entries buffer numbers) }
+    ensures { finish_lent after pages entries buffer numbers ≡ carried page_size save freed.now (finish_lent before pages entries buffer numbers) }
 {
     if work.written == 0 {
         return;
@@ -56,7 +56,7 @@ fn fill_numbers(
     numbers: &mut [u32],
 )
     requires { Numberable page_size (save_with save pages.now entries.now) freed.now work numbers.old }
-    ensures { after numbers ≡ sets (before numbers) 0 (numbers_for page_size (save_with save (before pages) (before entries)) (before freed)) }
+    ensures { numbers.new ≡ sets numbers.old 0 (numbers_for page_size (save_with save pages.now entries.now) freed.now) }
 {
     if work.plan.pages == 0 {
         new_pages(page_size, save, work, freed, pages, entries, numbers);
@@ -85,7 +85,7 @@ fn new_pages(
     numbers: &mut [u32],
 )
     requires { Doable page_size (save_with save pages.now entries.now) freed.now work }
-    ensures { after numbers ≡ sets (before numbers) 0 (plan_for page_size (save_with save (before pages) (before entries)) (before freed)).fresh }
+    ensures { numbers.new ≡ sets numbers.old 0 (plan_for page_size (save_with save pages.now entries.now) freed.now).fresh }
 {
     let start = save.start;
     plan(
@@ -112,7 +112,7 @@ fn write_tables(
     entries: &mut [u32],
 )
     requires { Filled page_size (save_with save pages.old entries.old) freed.now work numbers.now }
-    ensures { tables after pages entries ≡ new_tables page_size (save_with save (before pages) (before entries)) (before freed) }
+    ensures { tables after pages entries ≡ new_tables page_size (save_with save pages.old entries.old) freed.now }
 {
     let c = max_pns_per_page(page_size);
     let start = save.start;

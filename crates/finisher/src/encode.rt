@@ -1,7 +1,6 @@
 // The pages of the new list are encoded from the finished tables.
 ghost use Rattle.std.specs.Prelude.{◌≡◌, ◌*◌, ◌-◌, ◌≤◌, ◌<◌, length};
 ghost use Rattle.std.proofs.lemmas.List.Edits.{sets};
-ghost use Rattle.refusal.specs.Effect.{before, after};
 ghost use Rattle.free_list.specs.Shape.{previous, entries_below};
 ghost use Rattle.preallocate.specs.Counts.{table_list};
 ghost use Rattle.finisher.specs.Finish.{encoded_page};
@@ -32,7 +31,7 @@ fn entries_below(c: usize, pages: usize, entries: usize, j: usize) -> usize
 // The number of the page under page j, 0 if there is none.
 fn previous_page(pages: &[u32], j: usize) -> PageNumber
     requires { j ≤ length pages.now }
-    ensures { result.0 ≡ previous (before pages) j }
+    ensures { result.0 ≡ previous pages.now j }
 {
     if j == 0 {
         return PageNumber(0);
@@ -52,7 +51,7 @@ fn encode_page(
     page: &mut [u8],
 )
     requires { Listed page_size pages.now entries.now count listed × (j < count) × (length page.old ≡ page_size) }
-    ensures { after page ≡ (encoded_page page_size (table_list (before pages) (before entries) count listed) j).bytes }
+    ensures { page.new ≡ (encoded_page page_size (table_list pages.now entries.now count listed) j).bytes }
 {
     let c = max_pns_per_page(page_size);
     let from = entries_below(c, count, listed, j);
@@ -71,7 +70,7 @@ pub(crate) fn encode_pages(
     buffer: &mut [u8],
 )
     requires { EncodableList page_size pages.now entries.now count listed first (length buffer.old) }
-    ensures { after buffer ≡ sets (before buffer) 0 (bytes_from page_size (table_list (before pages) (before entries) count listed) first (count - first)) }
+    ensures { buffer.new ≡ sets buffer.old 0 (bytes_from page_size (table_list pages.now entries.now count listed) first (count - first)) }
 {
     let mut j = first;
     let mut at = 0;

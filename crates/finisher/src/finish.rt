@@ -16,7 +16,7 @@ use refusal::Refusal;
 
 // The store after a save: the new head (0 if none), the bump, the recorded length, the pages and entries of the list, and how many
 // pages are to be written.
-#[derive(Drop)]
+#[derive(Clone, Copy)]
 pub struct StoreMeta {
     pub head: PageNumber,
     pub bump: u32,
@@ -26,7 +26,7 @@ pub struct StoreMeta {
     pub written: usize,
 }
 
-#[derive(Drop)]
+#[derive(Clone, Copy)]
 pub enum Finishing {
     Finished(StoreMeta),
     Refused(Refusal),
@@ -43,7 +43,7 @@ pub fn finish(
     buffer: &mut [u8],
     numbers: &mut [u32],
 ) -> Finishing
-    ensures { effect (finish_outcome result) (finish_lent after pages entries buffer numbers) ≡ finish_into (page_bytes page_size) (save_with save (before pages) (before entries)) (before freed) (finish_room before buffer numbers) }
+    ensures { effect (finish_outcome result) (finish_lent after pages entries buffer numbers) ≡ finish_into (page_bytes page_size) (save_with save pages.old entries.old) freed.now (finish_room before buffer numbers) }
 {
     let page_bytes = page_size.bytes();
     match judge(
@@ -68,7 +68,7 @@ pub fn finish(
 // The store after this work, of which this length was recorded.
 fn store_after(recorded: u32, work: Work, pages: &[u32]) -> StoreMeta
     requires { (work.plan.bump ≤ max_bump) × (work.pages ≤ length pages.now) }
-    ensures { meta_answer result ≡ answer_of recorded work (before pages) }
+    ensures { meta_answer result ≡ answer_of recorded work pages.now }
 {
     let bump = work.plan.bump as u32;
     StoreMeta {
@@ -84,7 +84,7 @@ fn store_after(recorded: u32, work: Work, pages: &[u32]) -> StoreMeta
 // The number of the head page, 0 if the list has no page.
 fn head_of(pages: &[u32], count: usize) -> PageNumber
     requires { count ≤ length pages.now }
-    ensures { result.0 ≡ get_or (take count (before pages)) (count - 1) 0 }
+    ensures { result.0 ≡ get_or (take count pages.now) (count - 1) 0 }
 {
     if count == 0 {
         return PageNumber(0);

@@ -1,6 +1,5 @@
 // What a finish comes to, in numbers: its work, or the refusal.
 ghost use Rattle.std.specs.Prelude.{◌≡◌, ◌&&◌, ◌*◌, ◌-◌, ◌≤◌, leb};
-ghost use Rattle.refusal.specs.Effect.{before};
 ghost use Rattle.page.specs.PageSize.{IsPageSize};
 ghost use Rattle.finisher.specs.Answers.{save_with};
 ghost use Rattle.finisher.specs.Steps.{work_of, same_work, judged_outcome, judged, Begun, room_of};
@@ -12,7 +11,7 @@ use page::least::least;
 use preallocate::plan::{Plan, plan};
 use refusal::Refusal;
 
-#[derive(Drop)]
+#[derive(Clone, Copy)]
 pub(crate) struct Work {
     // How many entries were popped, and the bump after the numbers handed out.
     pub(crate) popped: usize,
@@ -25,7 +24,7 @@ pub(crate) struct Work {
     pub(crate) written: usize,
 }
 
-#[derive(Drop)]
+#[derive(Clone, Copy)]
 pub(crate) enum Judged {
     Todo(Work),
     Refused(Refusal),
@@ -42,7 +41,7 @@ pub(crate) fn judge(
     places: usize,
 ) -> Judged
     requires { IsPageSize page_size }
-    ensures { judged_outcome result ≡ judged page_size (save_with save (before pages) (before entries)) (before freed) (room_of bytes places) }
+    ensures { judged_outcome result ≡ judged page_size (save_with save pages.now entries.now) freed.now (room_of bytes places) }
 {
     if !state_fits(page_size, save.start, pages, entries) {
         return Judged::Refused(Refusal::State);
@@ -83,7 +82,7 @@ fn measure(
     freed: &[u32],
 ) -> Work
     requires { Begun page_size (save_with save pages.now entries.now) popped bump }
-    ensures { result ≡ work_of page_size (save_with save (before pages) (before entries)) (before freed) }
+    ensures { result ≡ work_of page_size (save_with save pages.now entries.now) freed.now }
 {
     if popped == 0 && freed.len() == 0 {
         return nothing_to_do(save.start, bump);

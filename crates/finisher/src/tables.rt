@@ -1,13 +1,12 @@
 // The new list is put into the tables: the push list behind the entries kept, the new numbers behind the pages kept.
 ghost use Rattle.std.specs.Prelude.{◌≡◌, reverse, ◌+◌, ◌-◌, ◌<◌, ◌≤◌, length, get_or, set, take, drop};
 ghost use Rattle.std.proofs.lemmas.List.Edits.{sets};
-ghost use Rattle.refusal.specs.Effect.{before, after};
 ghost use Rattle.finisher.specs.Finish.{first_bad};
 ghost use Rattle.finisher.specs.Steps.{push_list, Pushable};
 
 // The place of the first freed number that is 0 or not below the limit, or the length.
 pub(crate) fn first_bad(freed: &[u32], limit: usize) -> usize
-    ensures { result ≡ first_bad limit (before freed) }
+    ensures { result ≡ first_bad limit freed.now }
 {
     let mut i = 0;
     while i < freed.len() {
@@ -26,7 +25,7 @@ pub(crate) fn first_bad(freed: &[u32], limit: usize) -> usize
 // Copies the first n numbers to the table, from place `at` on.
 pub(crate) fn copy_numbers(numbers: &[u32], n: usize, table: &mut [u32], at: usize)
     requires { (n ≤ length numbers.now) × (at + n ≤ length table.old) }
-    ensures { after table ≡ sets (before table) at (take n (before numbers)) }
+    ensures { table.new ≡ sets table.old at (take n numbers.now) }
 {
     let mut i = 0;
     while i < n {
@@ -38,7 +37,7 @@ pub(crate) fn copy_numbers(numbers: &[u32], n: usize, table: &mut [u32], at: usi
 // Copies the page numbers from place `count` down to `low` to the table, from place `at` on.
 fn push_pages(pages: &[u32], count: usize, low: usize, table: &mut [u32], at: usize)
     requires { (low ≤ count) × (count ≤ length pages.now) × (at + (count - low) ≤ length table.old) }
-    ensures { after table ≡ sets (before table) at (reverse (drop low (take count (before pages)))) }
+    ensures { table.new ≡ sets table.old at (reverse (drop low (take count pages.now))) }
 {
     let mut page = count;
     let mut i = at;
@@ -60,7 +59,7 @@ pub(crate) fn write_pushes(
     at: usize,
 )
     requires { Pushable freed.now pages.now table.old mended count low at }
-    ensures { after table ≡ sets (before table) at (push_list (before freed) mended (take count (before pages)) low) }
+    ensures { table.new ≡ sets table.old at (push_list freed.now mended (take count pages.now) low) }
 {
     copy_numbers(freed, freed.len(), table, at);
     let first = at + freed.len();
@@ -73,7 +72,7 @@ pub(crate) fn write_pushes(
 // Two places of the table change their numbers.
 fn swap(table: &mut [u32], i: usize, j: usize)
     requires { (i < length table.old) × (j < length table.old) }
-    ensures { after table ≡ set (set (before table) i (get_or (before table) j 0)) j (get_or (before table) i 0) }
+    ensures { table.new ≡ set (set table.old i (get_or table.old j 0)) j (get_or table.old i 0) }
 {
     let first = table[i];
     table[i] = table[j];

@@ -3,7 +3,7 @@ use Rattle.std.specs.Prelude.{ℕ, zero, suc, ◌+◌, Bool, true, false, ◌&&�
 use Rattle.std.proofs.lemmas.List.Edits.{sets}
 use Rattle.refusal.specs.Outcome.{Outcome, answer, refused, check, with_answer}
 use Rattle.refusal.specs.Refusals.{refusal}
-use Rattle.refusal.specs.Effect.{Lent, Effect, leaves}
+use Rattle.refusal.specs.Effect.{LentMut, Effect, leaves}
 use Rattle.page.specs.PageSize.{capacity}
 use Rattle.page.specs.Pages.{page_count, page_at}
 use Rattle.free_list.specs.ListPages.{prev_of, count_of, entries_of}
@@ -66,7 +66,7 @@ pub record ListTables : Type 0 where
   pub pages : List ℕ
   pub entries : List ℕ
 
-abbrev pub tables : (Lent → List ℕ) → Lent → Lent → ListTables
+abbrev pub tables : (LentMut → List ℕ) → LentMut → LentMut → ListTables
 tables at pages entries = record { pages = at pages; entries = at entries }
 
 -- a list stands at the start of the tables, whose other places stay

@@ -1,6 +1,5 @@
 // Making a list page.
 ghost use Rattle.std.specs.Prelude.{◌≡◌, ◌+◌, ◌*◌, ◌^◌, ◌<◌, ◌≤◌, length, take};
-ghost use Rattle.refusal.specs.Effect.{before, after};
 ghost use Rattle.free_list.specs.ListPages.{encode_list_page, places, page_within};
 
 use page::fill::clear;
@@ -13,7 +12,7 @@ const MAX_COUNT: usize = 65535;
 
 // Makes a list page of all the lent bytes, with as many of the entries as it has places for. Fewer bytes than a header stay as they were.
 pub fn encode_free_list_page(prev: PageNumber, entries: &[u32], page: &mut [u8])
-    ensures { after page ≡ page_within prev.0 (before entries) (before page) }
+    ensures { page.new ≡ page_within prev.0 entries.now page.old }
 {
     if page.len() < 6 {
         return;
@@ -33,7 +32,7 @@ fn entry_places(bytes: usize) -> usize
 // Makes a page of the first n entries, which fit it.
 fn write_page(prev: PageNumber, entries: &[u32], n: usize, page: &mut [u8])
     requires { (n ≤ length entries.now) × (6 + 4 * n ≤ length page.old) × (n < 2 ^ 16) }
-    ensures { after page ≡ encode_list_page (length (before page)) prev.0 (take n (before entries)) }
+    ensures { page.new ≡ encode_list_page (length page.old) prev.0 (take n entries.now) }
 {
     let size = page.len();
     let under = prev.0;

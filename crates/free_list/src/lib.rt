@@ -2,6 +2,8 @@
 //
 // A list page names the page before it, and a list is read from its head page down into two lent tables, page numbers and
 // entries, both from the bottom page up.
+#![tactic(auto)]
+
 pub mod encode;
 pub mod list_page;
 pub mod page_ref;

@@ -2,7 +2,6 @@
 //
 // These are leaves for sibling modules and crates: each asks that what it reads lies within the page.
 ghost use Rattle.std.specs.Prelude.{◌≡◌, ◌+◌, ◌*◌, ◌≤◌, length};
-ghost use Rattle.refusal.specs.Effect.{before};
 ghost use Rattle.page.specs.Bytes.{number_at};
 ghost use Rattle.page.specs.PageSize.{IsPageSize, capacity};
 ghost use Rattle.free_list.specs.ListPages.{prev_of, count_of};
@@ -13,7 +12,7 @@ use page::number::PageNumber;
 // The number of the previous list page.
 pub(crate) fn prev_pn(page: &[u8]) -> PageNumber
     requires { 6 ≤ length page.now }
-    ensures { result.0 ≡ prev_of (before page) }
+    ensures { result.0 ≡ prev_of page.now }
 {
     PageNumber(read_u32(page, 0))
 }
@@ -21,7 +20,7 @@ pub(crate) fn prev_pn(page: &[u8]) -> PageNumber
 // The count of entries.
 pub(crate) fn item_count(page: &[u8]) -> u16
     requires { 6 ≤ length page.now }
-    ensures { result ≡ count_of (before page) }
+    ensures { result ≡ count_of page.now }
 {
     read_u16(page, 4)
 }
@@ -29,7 +28,7 @@ pub(crate) fn item_count(page: &[u8]) -> u16
 // Entry i.
 pub(crate) fn item(page: &[u8], i: usize) -> PageNumber
     requires { 10 + 4 * i ≤ length page.now }
-    ensures { result.0 ≡ number_at 4 (before page) (6 + 4 * i) }
+    ensures { result.0 ≡ number_at 4 page.now (6 + 4 * i) }
 {
     PageNumber(read_u32(page, 6 + 4 * i))
 }

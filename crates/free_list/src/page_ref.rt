@@ -8,7 +8,7 @@ ghost use Rattle.free_list.specs.ListPages.{prev_within, count_within, entry_wit
 use crate::list_page::{item, item_count, prev_pn};
 use page::number::PageNumber;
 
-#[derive(Drop)]
+#[derive(Clone, Copy)]
 pub struct FreeListPageRef<'a>(pub &'a [u8]);
 
 impl<'a> FreeListPageRef<'a> {
@@ -41,7 +41,7 @@ impl<'a> FreeListPageRef<'a> {
 }
 
 // The header of a list page.
-#[derive(Drop)]
+#[derive(Clone, Copy)]
 pub struct ListPageHeader {
     pub prev: PageNumber,
     pub count: u16,

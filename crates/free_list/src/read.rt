@@ -15,7 +15,7 @@ use page::store::{page_at, page_count};
 use refusal::Refusal;
 
 // The size of the list that now stands in the tables, or a refusal.
-#[derive(Drop)]
+#[derive(Clone, Copy)]
 pub enum ReadList {
     Read(ListCounts),
     Refused(Refusal),
@@ -33,7 +33,7 @@ pub fn read(
     pages: &mut [u32],
     entries: &mut [u32],
 ) -> ReadList
-    ensures { effect (read_outcome result) (tables after pages entries) ≡ read_list_into (page_bytes page_size) (before store) loose head.0 (tables before pages entries) }
+    ensures { effect (read_outcome result) (tables after pages entries) ≡ read_list_into (page_bytes page_size) store.now loose head.0 (tables before pages entries) }
 {
     let page_bytes = page_size.bytes();
     let first = head.0;
@@ -56,7 +56,7 @@ pub fn read(
 // twice as far, so that a list whose pages point at each other is seen soon after the walk has gone round once.
 fn measure(page_size: usize, store: &[u8], loose: bool, head: u32) -> ReadList
     requires { IsPageSize page_size }
-    ensures { read_outcome result ≡ read_size page_size (before store) loose head }
+    ensures { read_outcome result ≡ read_size page_size store.now loose head }
 {
     let count = page_count(page_size, store);
     let mut w = Walk {
@@ -96,7 +96,7 @@ fn fill(
     entries: &mut [u32],
 )
     requires { Fillable page_size store.now head list (length pages.old) (length entries.old) }
-    ensures { tables after pages entries ≡ list_in (tables before pages entries) (chain_from page_size (before store) list.pages head) }
+    ensures { tables after pages entries ≡ list_in (tables before pages entries) (chain_from page_size store.now list.pages head) }
 {
     let mut page = head;
     let mut left = list.pages;

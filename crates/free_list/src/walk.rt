@@ -1,6 +1,5 @@
 // The walk down a list, which only reads: it finds out how many pages and entries the list has, or why it is refused.
 ghost use Rattle.std.specs.Prelude.{◌≡◌, cond, ◌&&◌, leb, ltb, eqb, ◌+◌, ◌*◌, ◌<◌, ◌≤◌, length};
-ghost use Rattle.refusal.specs.Effect.{before};
 ghost use Rattle.page.specs.Bytes.{numbers_at};
 ghost use Rattle.free_list.specs.Reading.{count_fits, all_entries_fit};
 ghost use Rattle.free_list.specs.Steps.{MayVisit, Visits, MayWalk, Walks};
@@ -11,14 +10,14 @@ use page::store::page_at;
 use refusal::Refusal;
 
 // How many pages and entries a list has.
-#[derive(Drop)]
+#[derive(Clone, Copy)]
 pub struct ListCounts {
     pub pages: usize,
     pub entries: usize,
 }
 
 // Where a walk stands: the page to visit next, how many more it may visit, and the pages and entries that it has passed.
-#[derive(Drop)]
+#[derive(Clone, Copy)]
 pub(crate) struct Walk {
     pub page: u32,
     pub allowed: usize,
@@ -27,14 +26,14 @@ pub(crate) struct Walk {
 }
 
 // What a visit of one page finds: where the walk then stands, or why the page is refused.
-#[derive(Drop)]
+#[derive(Clone, Copy)]
 pub(crate) enum Visited {
     Next(Walk),
     Unfit(Refusal),
 }
 
 // How a walk comes out: the list has ended, the walk has nested as many calls as it may and goes on from here, or it is refused.
-#[derive(Drop)]
+#[derive(Clone, Copy)]
 pub(crate) enum Descent {
     Ended(ListCounts),
     More(Walk),
@@ -69,7 +68,7 @@ fn unfit(entry: u32, count: u32) -> u32
 // that are not: without a way out in its middle the loop becomes vector code.
 fn entries_fit(page: &[u8], n: usize, count: u32) -> bool
     requires { (n < 65536) × (6 + 4 * n ≤ length page.now) }
-    ensures { result ≡ all_entries_fit count (numbers_at 4 (before page) 6 n) }
+    ensures { result ≡ all_entries_fit count (numbers_at 4 page.now 6 n) }
 {
     let mut i = 0;
     let mut bad = 0;
@@ -83,7 +82,7 @@ fn entries_fit(page: &[u8], n: usize, count: u32) -> bool
 // Visits the page at which a walk stands.
 fn visit(page_size: usize, store: &[u8], count: u32, loose: bool, w: Walk) -> Visited
     requires { MayVisit page_size store.now loose count w }
-    ensures { Visits page_size (before store) loose w result }
+    ensures { Visits page_size store.now loose w result }
 {
     let page = w.page;
     if count <= page {
@@ -126,7 +125,7 @@ pub(crate) fn walk_down(
     nested: usize,
 ) -> Descent
     requires { MayWalk page_size store.now loose count mark w }
-    ensures { Walks page_size (before store) loose mark nested w result }
+    ensures { Walks page_size store.now loose mark nested w result }
 {
     if w.page == 0 {
         return Descent::Ended(ListCounts {

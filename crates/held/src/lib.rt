@@ -2,3 +2,5 @@
 // proved by hand, and these proofs are the same for each of them (proofs/HeldLaws, proofs/AskLaws).
 //
 // The crate has no code.
+
+#![tactic(auto)]

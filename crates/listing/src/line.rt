@@ -19,14 +19,14 @@ pub fn end_of_line(bytes: &[u8], from: usize) -> usize
 }
 
 // The size that a line gives.
-#[derive(Drop)]
+#[derive(Clone, Copy)]
 pub enum Size {
     Bad,
     Bytes(u64),
 }
 
 // What is accumulated of a line. Of up to 9 digits: how many, and the number that they write. Of any other line: 10 and 0.
-#[derive(Drop)]
+#[derive(Clone, Copy)]
 pub struct Line {
     digits: usize,
     value: u64,

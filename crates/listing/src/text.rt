@@ -2,7 +2,6 @@
 //
 // Each function answers the place behind what it put. What goes beyond the buffer's end is left out.
 ghost use Rattle.std.specs.Prelude.{◌≡◌, ◌-◌, min};
-ghost use Rattle.refusal.specs.Effect.{before, after};
 ghost use Rattle.page.specs.PageSize.{standard_page_size};
 ghost use Rattle.overflow.specs.Totals.{total_outcome};
 ghost use Rattle.listing.specs.Decimal.{digits_of};
@@ -18,14 +17,14 @@ use page::size::PAGE_SIZE;
 pub const MAX_TEXT: usize = 64;
 
 pub fn put_header(out: &mut [u8], at: usize) -> usize
-    ensures { Put (before out) at header (after out) result }
+    ensures { Put out.old at header out.new result }
 {
     put(out, at, b"size pages cell spare\n")
 }
 
 // What is printed for a line.
 pub fn put_line(line: Line, out: &mut [u8], at: usize) -> usize
-    ensures { Put (before out) at (size_text standard_page_size (accumulated_size line)) (after out) result }
+    ensures { Put out.old at (size_text standard_page_size (accumulated_size line)) out.new result }
 {
     match line.size() {
         Size::Bad => put(out, at, b"bad\n"),
@@ -39,7 +38,7 @@ pub fn put_line(line: Line, out: &mut [u8], at: usize) -> usize
 
 // What is printed behind a size.
 fn put_outcome(outcome: Totalled, out: &mut [u8], at: usize) -> usize
-    ensures { Put (before out) at (outcome_text (total_outcome outcome)) (after out) result }
+    ensures { Put out.old at (outcome_text (total_outcome outcome)) out.new result }
 {
     match outcome {
         Totalled::Pages(pages) => {
@@ -58,7 +57,7 @@ fn put_outcome(outcome: Totalled, out: &mut [u8], at: usize) -> usize
 
 // A space and a number.
 fn put_number(n: u64, out: &mut [u8], at: usize) -> usize
-    ensures { Put (before out) at (number_text n) (after out) result }
+    ensures { Put out.old at (number_text n) out.new result }
 {
     let behind_space = put(out, at, b" ");
     put_digits(n, out, behind_space)
@@ -66,7 +65,7 @@ fn put_number(n: u64, out: &mut [u8], at: usize) -> usize
 
 // A number in decimal.
 fn put_digits(n: u64, out: &mut [u8], at: usize) -> usize
-    ensures { Put (before out) at (digits_of n) (after out) result }
+    ensures { Put out.old at (digits_of n) out.new result }
 {
     let mut digits = [0u8; 20];
     let count = io::decimal(n, &mut digits);
@@ -75,7 +74,7 @@ fn put_digits(n: u64, out: &mut [u8], at: usize) -> usize
 
 // Bytes, as many as have room.
 fn put(out: &mut [u8], at: usize, bytes: &[u8]) -> usize
-    ensures { Put (before out) at (before bytes) (after out) result }
+    ensures { Put out.old at bytes.now out.new result }
 {
     let n = fitting(bytes.len(), at, out.len());
     let mut i = 0;

@@ -1,6 +1,5 @@
 // Where a page lies.
 ghost use Rattle.std.specs.Prelude.{◌≡◌};
-ghost use Rattle.refusal.specs.Effect.{before};
 ghost use Rattle.page.specs.PageSize.{page_bytes};
 ghost use Rattle.lookup.specs.Lookup.{first_of, find, find_outcome};
 
@@ -10,7 +9,7 @@ use page::store::page_count;
 use refusal::Refusal;
 
 // The first byte of the page, in the pending pages or in the store, or a refusal.
-#[derive(Drop)]
+#[derive(Clone, Copy)]
 pub enum Located {
     Pending(usize),
     Store(usize),
@@ -26,7 +25,7 @@ pub fn find(
     store: &[u8],
     page: PageNumber,
 ) -> Located
-    ensures { find_outcome result ≡ find (page_bytes page_size) (before numbers) (before pending) (before store) page.0 }
+    ensures { find_outcome result ≡ find (page_bytes page_size) numbers.now pending.now store.now page.0 }
 {
     let page_bytes = page_size.bytes();
     let number = page.0;
@@ -45,7 +44,7 @@ pub fn find(
 
 // The place of the first number that is the page, or the length.
 fn position(numbers: &[u32], page: u32) -> usize
-    ensures { result ≡ first_of page (before numbers) }
+    ensures { result ≡ first_of page numbers.now }
 {
     let mut i = 0;
     while i < numbers.len() {

@@ -2,5 +2,7 @@
 //
 // The pending pages are two lent slices: their numbers, and their bytes one page after another in the same order. Where a number
 // stands there twice, its first place counts.
+#![tactic(auto)]
+
 pub mod find;
 pub mod lookup;

@@ -1,6 +1,5 @@
 // The bytes of a page.
 ghost use Rattle.std.specs.Prelude.{◌≡◌};
-ghost use Rattle.refusal.specs.Effect.{before};
 ghost use Rattle.page.specs.PageSize.{page_bytes};
 ghost use Rattle.lookup.specs.Lookup.{lookup};
 
@@ -16,7 +15,7 @@ pub fn lookup<'a>(
     store: &'a [u8],
     page: PageNumber,
 ) -> &'a [u8]
-    ensures { result.now ≡ lookup (page_bytes page_size) (before numbers) (before pending) (before store) page.0 }
+    ensures { result.now ≡ lookup (page_bytes page_size) numbers.now pending.now store.now page.0 }
 {
     let page_bytes = page_size.bytes();
     match find(page_size, numbers, pending, store, page) {

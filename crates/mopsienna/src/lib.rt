@@ -2,6 +2,8 @@
 //
 // A function returns 0, or document 01's number of the refusal. Its values go to `out`, whose other places stay as they were.
 // include/mopsienna.h is the manual.
+#![tactic(auto)]
+
 pub mod lists;
 pub mod lookups;
 pub mod saves;

@@ -2,7 +2,7 @@
 use Rattle.std.specs.Prelude.{ℕ, zero, suc, ◌+◌, ◌*◌, Bool, true, false, ◌&&◌, cond, List, [], ◌∷◌, ◌++◌, leb, ltb, eqb, length, get_or, take}
 use Rattle.std.proofs.lemmas.List.Edits.{sets}
 use Rattle.refusal.specs.Outcome.{Outcome, answer, refused, check, with_answer}
-use Rattle.refusal.specs.Effect.{Lent, Effect, effect, leaves}
+use Rattle.refusal.specs.Effect.{LentMut, Effect, effect, leaves}
 use Rattle.refusal.specs.Refusals.{refusal}
 use Rattle.page.specs.Pages.{page_count, page_at}
 use Rattle.overflow.specs.Totals.{body, total_pages}
@@ -101,7 +101,7 @@ pub record ReadLent : Type 0 where
   pub numbers : List ℕ
   pub value : List ℕ
 
-abbrev pub read_lent : (Lent → List ℕ) → Lent → Lent → ReadLent
+abbrev pub read_lent : (LentMut → List ℕ) → LentMut → LentMut → ReadLent
 read_lent at numbers value = record { numbers = at numbers; value = at value }
 
 -- with the table after the walk, the value stands at the start of its buffer; a refusal leaves the buffer as it was

@@ -1,6 +1,5 @@
 // Whether a cell's value can be walked over: refusals 12, 10 and 13, which reading and deleting share.
 ghost use Rattle.std.specs.Prelude.{◌≡◌};
-ghost use Rattle.refusal.specs.Effect.{before};
 ghost use Rattle.page.specs.PageSize.{IsPageSize};
 ghost use Rattle.overflow.specs.Steps.{admitted_needs, admitted_outcome};
 
@@ -9,13 +8,13 @@ use crate::total::total_needed_pages;
 use refusal::Refusal;
 
 // What a value needs: the bytes of its buffer, and the places of its number table, one for each of its pages.
-#[derive(Drop)]
+#[derive(Clone, Copy)]
 pub(crate) struct ValueNeeds {
     pub size: usize,
     pub total: usize,
 }
 
-#[derive(Drop)]
+#[derive(Clone, Copy)]
 pub(crate) enum Admitted {
     Value(ValueNeeds),
     Refused(Refusal),
@@ -24,7 +23,7 @@ pub(crate) enum Admitted {
 // What a cell's value needs, where a value can have its size and there is room for so many numbers and bytes.
 pub(crate) fn admit(page_size: usize, cell: &[u8], numbers: usize, bytes: usize) -> Admitted
     requires { IsPageSize page_size }
-    ensures { admitted_outcome result ≡ admitted_needs page_size numbers bytes (before cell) }
+    ensures { admitted_outcome result ≡ admitted_needs page_size numbers bytes cell.now }
 {
     match cell_counts(page_size, cell) {
         Decoded::Refused(r) => Admitted::Refused(r),

@@ -1,7 +1,7 @@
 // Cells: size (8 bytes), hash (32, carried and not computed), numbers of pages.
 ghost use Rattle.std.specs.Prelude.{◌≡◌, ◌+◌, ◌≤◌, length, take, drop};
 ghost use Rattle.std.proofs.lemmas.List.Edits.{sets};
-ghost use Rattle.refusal.specs.Effect.{before, after, effect};
+ghost use Rattle.refusal.specs.Effect.{effect};
 ghost use Rattle.page.specs.PageSize.{page_bytes};
 ghost use Rattle.overflow.specs.Stored.{written_outcome};
 ghost use Rattle.overflow.specs.Cells.{cell_with, encode_cell_into, decoded_outcome, cell_counts, decode_cell_into};
@@ -14,13 +14,13 @@ use page::size::PageSize;
 use refusal::Refusal;
 
 // The size of a value and how many numbers its cell holds.
-#[derive(Drop)]
+#[derive(Clone, Copy)]
 pub struct CellCounts {
     pub size: usize,
     pub numbers: usize,
 }
 
-#[derive(Drop)]
+#[derive(Clone, Copy)]
 pub enum Decoded {
     Cell(CellCounts),
     Refused(Refusal),
@@ -34,7 +34,7 @@ pub fn encode_cell(
     numbers: &[u32],
     cell: &mut [u8],
 ) -> Written
-    ensures { effect (written_outcome result) (after cell) ≡ encode_cell_into (page_bytes page_size) (cell_with size (before hash) (before numbers)) (before cell) }
+    ensures { effect (written_outcome result) cell.new ≡ encode_cell_into (page_bytes page_size) (cell_with size hash.now numbers.now) cell.old }
 {
     let page_bytes = page_size.bytes();
     if (max_overflow_value_size(page_bytes) as u64) < size {
@@ -53,7 +53,7 @@ pub fn encode_cell(
 
 // Reads a cell: its hash goes to the array, and its size and the count of its numbers are the answer. A refusal leaves the array.
 pub fn decode_cell(page_size: PageSize, cell: &[u8], hash: &mut [u8; 32]) -> Decoded
-    ensures { effect (decoded_outcome result) (after hash) ≡ decode_cell_into (page_bytes page_size) (before cell) (before hash) }
+    ensures { effect (decoded_outcome result) hash.new ≡ decode_cell_into (page_bytes page_size) cell.now hash.old }
 {
     let decoded = cell_counts(page_size.bytes(), cell);
     match decoded {
@@ -67,7 +67,7 @@ pub fn decode_cell(page_size: PageSize, cell: &[u8], hash: &mut [u8; 32]) -> Dec
 
 // The size of a cell's value and how many numbers the cell holds, or refusal 12 or 10.
 pub(crate) fn cell_counts(page_size: usize, cell: &[u8]) -> Decoded
-    ensures { decoded_outcome result ≡ cell_counts page_size (before cell) }
+    ensures { decoded_outcome result ≡ cell_counts page_size cell.now }
 {
     let length = cell.len();
     if length < 44 {
@@ -89,7 +89,7 @@ pub(crate) fn cell_counts(page_size: usize, cell: &[u8]) -> Decoded
 // Copies a hash, word by word.
 fn copy_hash(a: &[u8], from: usize, b: &mut [u8], to: usize)
     requires { (from + 32 ≤ length a.now) × (to + 32 ≤ length b.old) }
-    ensures { after b ≡ sets (before b) to (take 32 (drop from (before a))) }
+    ensures { b.new ≡ sets b.old to (take 32 (drop from a.now)) }
 {
     copy_word(a, from, b, to);
     copy_word(a, from + 8, b, to + 8);

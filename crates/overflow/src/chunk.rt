@@ -1,7 +1,7 @@
 // Writing a value: one page a call, with the numbers of all its pages lent.
 ghost use Rattle.std.specs.Prelude.{◌≡◌, ◌≤◌, length};
 ghost use Rattle.std.proofs.lemmas.List.Edits.{sets};
-ghost use Rattle.refusal.specs.Effect.{before, after, effect};
+ghost use Rattle.refusal.specs.Effect.{before, effect};
 ghost use Rattle.page.specs.PageSize.{IsPageSize, page_bytes};
 ghost use Rattle.overflow.specs.Stored.{written_outcome};
 ghost use Rattle.overflow.specs.Layout.{numbers_part, bytes_part};
@@ -23,7 +23,7 @@ pub fn chunk(
     index: usize,
     page: &mut [u8],
 ) -> Written
-    ensures { effect (written_outcome result) (after page) ≡ chunk_into (page_bytes page_size) (before value) (before numbers) index (before page) }
+    ensures { effect (written_outcome result) page.new ≡ chunk_into (page_bytes page_size) value.now numbers.now index page.old }
 {
     let page_bytes = page_size.bytes();
     let size = value.len();
@@ -50,7 +50,7 @@ pub fn chunk(
 // Makes page `index` of a value that has as many pages as numbers are lent.
 fn write_page(page_size: usize, value: &[u8], numbers: &[u32], index: usize, page: &mut [u8])
     requires { IsPageSize page_size × IsPageOf page_size (length numbers.now) index × (page_size ≤ length page.old) }
-    ensures { after page ≡ sets (before page) 0 (value_page page_size (length (before numbers)) (before value) (before numbers) index) }
+    ensures { page.new ≡ sets page.old 0 (value_page page_size (length numbers.now) value.now numbers.now index) }
 {
     let total = numbers.len();
     let n = numbers_on(page_size, total, index);

@@ -1,6 +1,6 @@
 // Deleting a value: the numbers of its pages are collected, so that they can be freed. No page is written.
 ghost use Rattle.std.specs.Prelude.{◌≡◌};
-ghost use Rattle.refusal.specs.Effect.{before, after, effect};
+ghost use Rattle.refusal.specs.Effect.{effect};
 ghost use Rattle.page.specs.PageSize.{IsPageSize, page_bytes};
 ghost use Rattle.overflow.specs.Reading.{delete_into, deleted_outcome};
 ghost use Rattle.overflow.specs.Steps.{Celled, delete_admitted};
@@ -12,7 +12,7 @@ use page::size::PageSize;
 use refusal::Refusal;
 
 // How many numbers were found, or why it was refused.
-#[derive(Drop)]
+#[derive(Clone, Copy)]
 pub enum Deleted {
     Numbers(usize),
     Refused(Refusal),
@@ -22,7 +22,7 @@ pub enum Deleted {
 // makes it no page behind that one has numbers, and a chain that has some there is refused with 17. No room is asked for the bytes, so
 // there is enough for the largest value.
 pub fn delete(page_size: PageSize, cell: &[u8], store: &[u8], numbers: &mut [u32]) -> Deleted
-    ensures { effect (deleted_outcome result) (after numbers) ≡ delete_into (page_bytes page_size) (before cell) (before store) (before numbers) }
+    ensures { effect (deleted_outcome result) numbers.new ≡ delete_into (page_bytes page_size) cell.now store.now numbers.old }
 {
     let page_bytes = page_size.bytes();
     let largest = max_overflow_value_size(page_bytes);
@@ -41,7 +41,7 @@ fn delete_pages(
     numbers: &mut [u32],
 ) -> Deleted
     requires { IsPageSize page_size × Celled page_size cell.now needs numbers.old }
-    ensures { effect (deleted_outcome result) (after numbers) ≡ delete_admitted page_size (before cell) (before store) (before numbers) }
+    ensures { effect (deleted_outcome result) numbers.new ≡ delete_admitted page_size cell.now store.now numbers.old }
 {
     let total = needs.total;
     match walk(page_size, store, cell, total, true, numbers) {

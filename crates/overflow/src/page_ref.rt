@@ -10,7 +10,7 @@ use crate::value_page::{byte_count, number_count};
 use page::little_endian::read_u32;
 use page::number::PageNumber;
 
-#[derive(Drop)]
+#[derive(Clone, Copy)]
 pub struct ValuePageRef<'a>(pub &'a [u8]);
 
 impl<'a> ValuePageRef<'a> {
@@ -50,7 +50,7 @@ impl<'a> ValuePageRef<'a> {
 }
 
 // The header of a value page: its counts of numbers and of value bytes.
-#[derive(Drop)]
+#[derive(Clone, Copy)]
 pub struct ValuePageHeader {
     pub numbers: u16,
     pub bytes: u16,

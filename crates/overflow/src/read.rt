@@ -15,13 +15,13 @@ use page::store::page_at;
 use refusal::Refusal;
 
 // The bytes of a value and how many numbers of pages were found.
-#[derive(Drop)]
+#[derive(Clone, Copy)]
 pub struct ValueCounts {
     pub size: usize,
     pub numbers: usize,
 }
 
-#[derive(Drop)]
+#[derive(Clone, Copy)]
 pub enum ReadValue {
     Read(ValueCounts),
     Refused(Refusal),
@@ -36,7 +36,7 @@ pub fn read(
     numbers: &mut [u32],
     value: &mut [u8],
 ) -> ReadValue
-    ensures { effect (read_outcome result) (read_lent after numbers value) ≡ read_value_into (page_bytes page_size) (before cell) (before store) (read_lent before numbers value) }
+    ensures { effect (read_outcome result) (read_lent after numbers value) ≡ read_value_into (page_bytes page_size) cell.now store.now (read_lent before numbers value) }
 {
     let page_bytes = page_size.bytes();
     match admit(page_bytes, cell, numbers.len(), value.len()) {
@@ -55,7 +55,7 @@ fn read_pages(
     value: &mut [u8],
 ) -> ReadValue
     requires { IsPageSize page_size × WalkReadable page_size cell.now needs numbers.old value.old }
-    ensures { effect (read_outcome result) (read_lent after numbers value) ≡ read_admitted page_size (before cell) (before store) (read_lent before numbers value) }
+    ensures { effect (read_outcome result) (read_lent after numbers value) ≡ read_admitted page_size cell.now store.now (read_lent before numbers value) }
 {
     let size = needs.size;
     let total = needs.total;
@@ -80,7 +80,7 @@ fn read_pages(
 // Copies the value bytes of the pages whose numbers are the first `total` of the table, one page after another.
 fn copy_value(page_size: usize, store: &[u8], numbers: &[u32], total: usize, value: &mut [u8])
     requires { IsPageSize page_size × Copyable page_size store.now total numbers.now value.old }
-    ensures { after value ≡ sets (before value) 0 (value_bytes_of page_size (before store) (take total (before numbers))) }
+    ensures { value.new ≡ sets value.old 0 (value_bytes_of page_size store.now (take total numbers.now)) }
 {
     let mut i = 0;
     let mut at = 0;

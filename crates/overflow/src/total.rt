@@ -14,14 +14,14 @@ pub const MAX_OVERFLOW_VALUE_SIZE: usize = 0x2000_0000;
 pub const MAX_OVERFLOW_CELL_NODE_POINTERS: usize = 15;
 
 // The pages of a value: all of them, those whose numbers go to the cell, and the spare room.
-#[derive(Drop)]
+#[derive(Clone, Copy)]
 pub struct PageTotal {
     pub total: usize,
     pub cell: usize,
     pub spare: usize,
 }
 
-#[derive(Drop)]
+#[derive(Clone, Copy)]
 pub enum Totalled {
     Pages(PageTotal),
     Refused(Refusal),

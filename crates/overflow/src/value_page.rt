@@ -3,7 +3,6 @@
 // These are leaves for the modules above: each asks that what it reads or writes lies within the page.
 ghost use Rattle.std.specs.Prelude.{◌≡◌, ◌≤◌, length};
 ghost use Rattle.std.proofs.lemmas.List.Edits.{sets};
-ghost use Rattle.refusal.specs.Effect.{before, after};
 ghost use Rattle.page.specs.PageSize.{IsPageSize};
 ghost use Rattle.overflow.specs.Layout.{part_of};
 ghost use Rattle.overflow.specs.Steps.{EncodableValue};
@@ -16,7 +15,7 @@ use page::little_endian::{read_u16, write_numbers, write_u16};
 // The count of numbers.
 pub(crate) fn number_count(page: &[u8]) -> u16
     requires { 4 ≤ length page.now }
-    ensures { result ≡ number_count (before page) }
+    ensures { result ≡ number_count page.now }
 {
     read_u16(page, 0)
 }
@@ -24,13 +23,13 @@ pub(crate) fn number_count(page: &[u8]) -> u16
 // The count of value bytes.
 pub(crate) fn byte_count(page: &[u8]) -> u16
     requires { 4 ≤ length page.now }
-    ensures { result ≡ byte_count (before page) }
+    ensures { result ≡ byte_count page.now }
 {
     read_u16(page, 2)
 }
 
 // Where a part of a lent slice begins, and how long it is.
-#[derive(Drop)]
+#[derive(Clone, Copy)]
 pub struct Part {
     pub from: usize,
     pub count: usize,
@@ -46,7 +45,7 @@ pub(crate) fn encode_value_page(
     page: &mut [u8],
 )
     requires { IsPageSize page_size × EncodableValue page_size numbers.now n value.now v page.old }
-    ensures { after page ≡ sets (before page) 0 (encode_value_page page_size (part_of n (before numbers)) (part_of v (before value))) }
+    ensures { page.new ≡ sets page.old 0 (encode_value_page page_size (part_of n numbers.now) (part_of v value.now)) }
 {
     write_u16(page, 0, n.count as u16);
     write_u16(page, 2, v.count as u16);

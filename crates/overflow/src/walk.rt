@@ -1,7 +1,7 @@
 // The walk over the pages of a value: the numbers of its pages are queued from the cell and then from each page.
 ghost use Rattle.std.specs.Prelude.{◌≡◌, ◌+◌, ◌*◌, ◌-◌, ◌<◌, ◌≤◌, length, take};
 ghost use Rattle.std.proofs.lemmas.List.Edits.{sets};
-ghost use Rattle.refusal.specs.Effect.{before, after, effect};
+ghost use Rattle.refusal.specs.Effect.{effect};
 ghost use Rattle.page.specs.Bytes.{numbers_at};
 ghost use Rattle.page.specs.PageSize.{IsPageSize};
 ghost use Rattle.page.specs.Pages.{page_count};
@@ -16,21 +16,21 @@ use page::store::{page_at, page_count};
 use refusal::Refusal;
 
 // The counts of a value page, or why it is refused.
-#[derive(Drop)]
+#[derive(Clone, Copy)]
 enum Parsed {
     Page(ValuePageHeader),
     Unfit(Refusal),
 }
 
 // How many numbers and value bytes a walk has found.
-#[derive(Drop)]
+#[derive(Clone, Copy)]
 pub(crate) struct FoundCounts {
     pub numbers: usize,
     pub bytes: usize,
 }
 
 // How a walk comes out.
-#[derive(Drop)]
+#[derive(Clone, Copy)]
 pub(crate) enum WalkEnd {
     Ended(FoundCounts),
     Stopped(Refusal),
@@ -46,7 +46,7 @@ pub(crate) fn walk(
     table: &mut [u32],
 ) -> WalkEnd
     requires { IsPageSize page_size × (cell_header ≤ length cell.now) × Walkable page_size total table.old }
-    ensures { effect (walk_outcome result) (after table) ≡ walk_into page_size (before store) deleting total (before cell) (before table) }
+    ensures { effect (walk_outcome result) table.new ≡ walk_into page_size store.now deleting total cell.now table.old }
 {
     let known = (cell.len() - 40) / 4;
     queue(cell, 40, known, table, 0, total);
@@ -64,7 +64,7 @@ fn walk_pages(
     table: &mut [u32],
 ) -> WalkEnd
     requires { IsPageSize page_size × Walkable page_size total table.old × (known ≤ max_known) }
-    ensures { effect (walk_outcome result) (after table) ≡ walk_table page_size (in_store page_size (before store)) deleting total total 0 (start_counts known) (before table) }
+    ensures { effect (walk_outcome result) table.new ≡ walk_table page_size (in_store page_size store.now) deleting total total 0 (start_counts known) table.old }
 {
     let count = page_count(page_size, store);
     let mut numbers = known;
@@ -98,7 +98,7 @@ fn visit_page(
     table: &mut [u32],
 ) -> Parsed
     requires { IsPageSize page_size × (count ≡ page_count page_size store.now) × (total ≤ length table.old) × (i < total) }
-    ensures { effect (parsed_outcome result) (after table) ≡ visit_into page_size (in_store page_size (before store)) total i known (before table) }
+    ensures { effect (parsed_outcome result) table.new ≡ visit_into page_size (in_store page_size store.now) total i known table.old }
 {
     if known <= i {
         return Parsed::Unfit(Refusal::Unknown(i));
@@ -117,7 +117,7 @@ fn visit_page(
 // The counts of a page, as page i of a walk: refusals 15 and 16.
 fn parse_page(page_size: usize, store: &[u8], count: u32, i: usize, page: u32) -> Parsed
     requires { IsPageSize page_size × (count ≡ page_count page_size store.now) }
-    ensures { parsed_outcome result ≡ parse_header page_size (in_store page_size (before store)) i page }
+    ensures { parsed_outcome result ≡ parse_header page_size (in_store page_size store.now) i page }
 {
     if count <= page {
         return Parsed::Unfit(Refusal::Missing(i));
@@ -144,7 +144,7 @@ fn left_after(deleting: bool, bytes: u16, left: usize) -> usize
 // Puts n numbers from the bytes at `at` behind the `known` ones of the table, as far as they are among the first `total`.
 fn queue(b: &[u8], at: usize, n: usize, table: &mut [u32], known: usize, total: usize)
     requires { (at + 4 * n ≤ length b.now) × (total ≤ length table.old) }
-    ensures { after table ≡ sets (before table) known (take (total - known) (numbers_at 4 (before b) at n)) }
+    ensures { table.new ≡ sets table.old known (take (total - known) (numbers_at 4 b.now at n)) }
 {
     if total <= known {
         return;

@@ -6,7 +6,7 @@ use crate::number::PageNumber;
 use refusal::Refusal;
 
 // The store's new length in pages, or refusal 7.
-#[derive(Drop)]
+#[derive(Clone, Copy)]
 pub enum Grown {
     To(PageNumber),
     Refused(Refusal),

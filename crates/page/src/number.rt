@@ -1,8 +1,8 @@
 // Page numbers, and the count of numbers handed out.
 // The number of a page. 0 is nil: no page.
-#[derive(Drop)]
+#[derive(Clone, Copy)]
 pub struct PageNumber(pub u32);
 
 // How many numbers an open save has handed out.
-#[derive(Drop)]
+#[derive(Clone, Copy)]
 pub struct Allocations(pub usize);

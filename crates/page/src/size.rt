@@ -3,7 +3,7 @@ ghost use Rattle.std.specs.Prelude.{◌≡◌};
 ghost use Rattle.page.specs.PageSize.{page_bytes};
 
 // The size of a page: 16 + 4 * n bytes, and 65,536 from n = 16,380 on. So each value is a page size, and every page size is one.
-#[derive(Drop)]
+#[derive(Clone, Copy)]
 pub struct PageSize(pub usize);
 
 // Document 01's: 4,096 bytes.

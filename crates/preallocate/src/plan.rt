@@ -1,6 +1,5 @@
 // The plan of a finish: the first number popped, then turns until there is room for the push list.
 ghost use Rattle.std.specs.Prelude.{◌≡◌, ◌&&◌, ◌*◌, ◌-◌, ◌^◌, ◌≤◌, ◌<◌, eqb, length};
-ghost use Rattle.refusal.specs.Effect.{before, after};
 ghost use Rattle.page.specs.PageSize.{most_entries, capacity};
 ghost use Rattle.free_list.specs.Shape.{is_fragmented};
 ghost use Rattle.preallocate.specs.Plan.{pages_after, first_plan, plan_of};
@@ -13,7 +12,7 @@ use free_list::list_page::max_pns_per_page;
 // How many pages of a list of so many pages and entries are left after `popped` pops.
 fn pages_after(c: usize, pages: &[u32], entries: &[u32], popped: usize) -> usize
     requires { (1 ≤ c) × (c ≤ most_entries) × (popped ≤ length entries.now) }
-    ensures { result ≡ pages_after c (whole_list (before pages) (before entries)) popped }
+    ensures { result ≡ pages_after c (whole_list pages.now entries.now) popped }
 {
     if popped == 0 {
         return pages.len();
@@ -62,7 +61,7 @@ fn first_plan(
     out: &mut [u32],
 ) -> Plan
     requires { Poppable c (whole_list pages.now entries.now) popped bump }
-    ensures { Makes (first_plan c (whole_list (before pages) (before entries)) popped (before freed) bump) (before out) result (after out) }
+    ensures { Makes (first_plan c (whole_list pages.now entries.now) popped freed.now bump) out.old result out.new }
 {
     let kept = pages_after(c, pages, entries, popped);
     let pushed = freed.len() + (pages.len() - kept);
@@ -97,7 +96,7 @@ pub fn plan(
     out: &mut [u32],
 ) -> Plan
     requires { Planable page_size pages.now entries.now p l popped bump }
-    ensures { Makes (plan_of (capacity page_size) (table_list (before pages) (before entries) p l) popped (before freed) bump) (before out) result (after out) }
+    ensures { Makes (plan_of (capacity page_size) (table_list pages.now entries.now p l) popped freed.now bump) out.old result out.new }
 {
     let c = max_pns_per_page(page_size);
     let pages = &pages[..p];

@@ -13,12 +13,11 @@
 // the room is enough. Where one place is missing, the pop that gets a new page frees a place too, so that one page more is there than is
 // needed: that list is *fragmented*, its head has one entry and the page under it one less than it could. The next save mends it.
 ghost use Rattle.std.specs.Prelude.{◌≡◌, true, false, List, [], ◌∷◌, ℕ, ◌+◌, ◌*◌, ◌^◌, ◌≤◌, ◌<◌, ◌-◌, length, set, get_or};
-ghost use Rattle.refusal.specs.Effect.{before, after};
 ghost use Rattle.preallocate.specs.Counts.{whole_list, narrow, Told};
 ghost use Rattle.preallocate.specs.Steps.{room_of, whole_of, bump_taken, entry_taken, last_taken, Packed, Small, Due, Took, Planned};
 
 // How far a finish has come, in numbers.
-#[derive(Drop)]
+#[derive(Clone, Copy)]
 pub struct Plan {
     // Pages kept.
     pub pages: usize,
@@ -53,14 +52,14 @@ fn whole(c: usize, p: Plan) -> bool
 // The number of the page under the top one of `kept` pages; where there is none, that page's own.
 pub(crate) fn under(pages: &[u32], kept: usize) -> u32
     requires { (1 ≤ kept) × (kept ≤ length pages.now) }
-    ensures { result ≡ get_or (before pages) (kept - 2) 0 }
+    ensures { result ≡ get_or pages.now (kept - 2) 0 }
 {
     if kept < 2 { pages[0] } else { pages[kept - 2] }
 }
 
 // Stores x at i, where that is within `out`.
 pub(crate) fn put(out: &mut [u32], i: usize, x: u32)
-    ensures { after out ≡ set (before out) i x }
+    ensures { out.new ≡ set out.old i x }
 {
     if i < out.len() {
         out[i] = x;
@@ -77,7 +76,7 @@ fn low(x: usize) -> u32
 // Takes the bump as a new page.
 fn take_bump(out: &mut [u32], p: Plan) -> Plan
     requires { (p.fresh + 1 < 2 ^ 64) × (p.bump + 1 < 2 ^ 64) }
-    ensures { Told (bump_taken p) p.fresh (p.bump ∷ []) (before out) result (after out) }
+    ensures { Told (bump_taken p) p.fresh (p.bump ∷ []) out.old result out.new }
 {
     put(out, p.fresh, low(p.bump));
     Plan {
@@ -108,7 +107,7 @@ fn entry_taken(p: Plan) -> Plan
 // The last entry is taken, and with it the page that this leaves empty.
 fn last_taken(pages: &[u32], p: Plan) -> Plan
     requires { (1 ≤ p.entries) × (p.fresh + 2 < 2 ^ 64) × (1 ≤ p.pages) × (p.pages ≤ length pages.now) }
-    ensures { (entries : List ℕ) → result ≡ last_taken (whole_list (before pages) entries) p }
+    ensures { (entries : List ℕ) → result ≡ last_taken (whole_list pages.now entries) p }
 {
     Plan {
         pages: p.pages - 1,
@@ -123,7 +122,7 @@ fn last_taken(pages: &[u32], p: Plan) -> Plan
 // Takes the last entry, and with it the page that this leaves empty.
 fn take_entry(c: usize, pages: &[u32], entries: &[u32], out: &mut [u32], p: Plan) -> Plan
     requires { Due c (whole_list pages.now entries.now) p × (1 ≤ p.entries) }
-    ensures { Took c (whole_list (before pages) (before entries)) p (before out) result (after out) }
+    ensures { Took c (whole_list pages.now entries.now) p out.old result out.new }
 {
     let last = p.entries - 1;
     put(out, p.fresh, entries[last]);
@@ -137,7 +136,7 @@ fn take_entry(c: usize, pages: &[u32], entries: &[u32], out: &mut [u32], p: Plan
 // Takes one page: the last entry, or else the bump.
 fn take_one(c: usize, pages: &[u32], entries: &[u32], out: &mut [u32], p: Plan) -> Plan
     requires { Due c (whole_list pages.now entries.now) p }
-    ensures { Took c (whole_list (before pages) (before entries)) p (before out) result (after out) }
+    ensures { Took c (whole_list pages.now entries.now) p out.old result out.new }
 {
     if p.entries < 1 {
         return take_bump(out, p);
@@ -149,7 +148,7 @@ fn take_one(c: usize, pages: &[u32], entries: &[u32], out: &mut [u32], p: Plan) 
 #[cycle(swap_head_take_page)]
 fn swap_head(c: usize, pages: &[u32], entries: &[u32], out: &mut [u32], p: Plan) -> Plan
     requires { Due c (whole_list pages.now entries.now) p × (whole_of c p ≡ true) }
-    ensures { Planned c (whole_list (before pages) (before entries)) p (before out) result (after out) }
+    ensures { Planned c (whole_list pages.now entries.now) p out.old result out.new }
 {
     let last = p.entries - 1;
     let swapped = Plan {
@@ -167,7 +166,7 @@ fn swap_head(c: usize, pages: &[u32], entries: &[u32], out: &mut [u32], p: Plan)
 #[cycle(swap_head_take_page)]
 fn take_page(c: usize, pages: &[u32], entries: &[u32], out: &mut [u32], p: Plan) -> Plan
     requires { Due c (whole_list pages.now entries.now) p × (whole_of c p ≡ false) }
-    ensures { Planned c (whole_list (before pages) (before entries)) p (before out) result (after out) }
+    ensures { Planned c (whole_list pages.now entries.now) p out.old result out.new }
 {
     let mut q = take_one(c, pages, entries, out, p);
     while room(c, q) < q.pushed {
@@ -182,7 +181,7 @@ fn take_page(c: usize, pages: &[u32], entries: &[u32], out: &mut [u32], p: Plan)
 // Goes on from where the plan stands until the room is enough.
 pub(crate) fn make_room(c: usize, pages: &[u32], entries: &[u32], out: &mut [u32], p: Plan) -> Plan
     requires { Packed c (whole_list pages.now entries.now) p × Small c p }
-    ensures { Planned c (whole_list (before pages) (before entries)) p (before out) result (after out) }
+    ensures { Planned c (whole_list pages.now entries.now) p out.old result out.new }
 {
     if p.pushed <= room(c, p) {
         return p;

@@ -4,7 +4,7 @@
 
 // How far a line is read: how many numbers stand in the table, the number at hand and whether it has a digit, whether the line is skipped,
 // and whether it is malformed.
-#[derive(Drop)]
+#[derive(Clone, Copy)]
 pub struct Reading {
     pub count: usize,
     value: u64,

@@ -1,20 +1,27 @@
 -- What a call leaves: its outcome, and what was lent to it, as it is afterwards.
 use Rattle.std.specs.Prelude.{ℕ, List}
 use denote.Triple.Both.{Both}
-use Rattle.std.specs.Borrow.{Bor}
+use Rattle.std.specs.Borrow.{Bor, MutBor}
 use Rattle.std.proofs.lemmas.List.Edits.{sets}
 use Rattle.refusal.specs.Outcome.{Outcome, answer, refused}
 
 -- ---- what is lent
 
--- a lent slice or array, as a contract sees it: before the call and after it
+-- a slice or an array that is lent to be read, as a contract sees it
 abbrev pub Lent : Type 0
 Lent = Both (Bor (List ℕ)) (Bor (List ℕ))
 
-abbrev pub before : Lent → List ℕ
+abbrev pub given : Lent → List ℕ
+given x = x.entry.now
+
+-- one that may be written: before the call and after it
+abbrev pub LentMut : Type 0
+LentMut = Both (MutBor (List ℕ)) (MutBor (List ℕ))
+
+abbrev pub before : LentMut → List ℕ
 before x = x.entry.now
 
-abbrev pub after : Lent → List ℕ
+abbrev pub after : LentMut → List ℕ
 after x = x.exit.now
 
 -- where nothing is lent
@@ -57,7 +64,7 @@ abbrev pub called : {A B : Type 0} → (A → List ℕ) → List ℕ → Effect 
 called values out e = record { status = status e.outcome; out = sets out 0 (told values e.outcome); lent = e.lent }
 
 -- what such a function has left, as its contract sees it
-abbrev pub left : {B : Type 0} → ℕ → Lent → B → Called B
+abbrev pub left : {B : Type 0} → ℕ → LentMut → B → Called B
 left r out lent = record { status = r; out = after out; lent = lent }
 
 -- the same of a function that has no `out`

@@ -1,12 +1,14 @@
 // The refusals of document 01: what a call answers where it cannot do what was asked.
 //
 // A refusal has a number and, for some rows of the table, a value. `specs/Refusals` gives both for every case.
+#![tactic(auto)]
+
 ghost use Rattle.std.specs.Prelude.{◌≡◌};
 ghost use Rattle.std.proofs.lemmas.List.Edits.{sets};
 ghost use Rattle.refusal.specs.Refusals.{number, values};
 
 // One case for each row of document 01's table, in its order, with the value that the row returns beside the number.
-#[derive(Drop)]
+#[derive(Clone, Copy)]
 pub enum Refusal {
     // 1: a bump of 0 or above its limit, a P and L outside the shape, or tables shorter than them.
     State,

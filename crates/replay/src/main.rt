@@ -1,6 +1,8 @@
 // Makes calls that were recorded with their answers, and compares what they give now.
 //
 // Each line of standard input is one call: its kind, what goes in and what has to come out, as the crate `replayed` says of each.
+#![tactic(auto)]
+
 ghost use Rattle.io.specs.Counts.{IsPrefixLen};
 
 use libc::{STDIN_FILENO, STDOUT_FILENO};
@@ -12,7 +14,7 @@ use replayed::replay;
 const MOST_NAMED: u64 = 10;
 
 // How far the replay is: the line at hand, how many lines, calls and wrong ones there were, and whether to go on.
-#[derive(Drop)]
+#[derive(Clone, Copy)]
 struct Progress {
     reading: Reading,
     lines: u64,

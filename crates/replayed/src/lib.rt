@@ -2,6 +2,8 @@
 //
 // A line is one call: its kind, what goes in and, behind the `|` in the comments here, what has to come out. An array that goes in, as
 // `store[]`, is its length and its elements. One that comes out is its elements alone; its length goes in.
+#![tactic(auto)]
+
 use lists::{replay_finish, replay_hand_out, replay_read_list};
 use lookups::replay_lookup;
 use record_line::numbers::number;

@@ -182,7 +182,7 @@ fn after_finish(
 }
 
 // The open save of a line, and the page size before it.
-#[derive(Drop)]
+#[derive(Clone, Copy)]
 struct Opened {
     size: u64,
     bump: u32,

@@ -1,6 +1,8 @@
 // The operations of the C interface at any page size, for the comparison with the Rust and the recorded answers.
 //
 // A page has so many words of four bytes more than the four that the least page has.
+#![tactic(auto)]
+
 ghost use Rattle.sized.specs.Sizes.{page_size_of};
 ghost use Rattle.calls.specs.Lists.{ReadsList};
 ghost use Rattle.calls.specs.Lookups.{LooksUp};

@@ -1,6 +1,8 @@
 // Reads sizes from standard input, one a line, and prints how many pages a value of each takes.
 //
 // What is printed is document 01's listing. The crate `listing` does the work on bytes; here they are read and written.
+#![tactic(auto)]
+
 ghost use Rattle.std.specs.Prelude.{◌+◌, ◌*◌, ◌≤◌, length};
 ghost use Rattle.listing.specs.Text.{max_text};
 
@@ -9,7 +11,7 @@ use listing::line::{Line, end_of_line};
 use listing::text::{MAX_TEXT, put_header, put_line};
 
 // How far the listing is: the line that is being read, the bytes of the output buffer that wait to be written, and whether to go on.
-#[derive(Drop)]
+#[derive(Clone, Copy)]
 struct Progress {
     line: Line,
     waiting: usize,
