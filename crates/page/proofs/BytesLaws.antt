@@ -184,8 +184,8 @@ pub numbers_at-bytes_of_all : (w : ℕ) (ns rest : List ℕ) → ((n : ℕ) → 
 unfolding numbers_at bytes_of_all
 numbers_at-bytes_of_all w [] rest fit = refl
 numbers_at-bytes_of_all w (n ∷ ns) rest fit =
-    rw append_assoc
-    (ap₂ (λ (x : ℕ) (xs : List ℕ). x ∷ xs)
+    ap (λ (b : List ℕ). numbers_at w b 0 (suc (length ns))) (append_assoc (bytes_of w n) (bytes_of_all w ns) rest)
+    ∙ (ap₂ (λ (x : ℕ) (xs : List ℕ). x ∷ xs)
     (number_at_append-left w (bytes_of w n) (bytes_of_all w ns ++ rest) 0 (omega (arith, length_bytes_of w n)) ∙ number_at_bytes_of w n (fit n (Memᴰ.head refl)))
     (numbers_at_same w (bytes_of w n ++ (bytes_of_all w ns ++ rest)) (bytes_of_all w ns ++ rest) (0 + w) 0 (length ns) behind ∙ numbers_at-bytes_of_all w ns rest (λ m t. fit m (Memᴰ.tail t))))
   where
