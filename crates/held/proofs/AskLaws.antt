@@ -7,7 +7,7 @@ use Prim.Native.Nat.{ℕ, ◌<◌, ◌^◌}
 use mathlib.Core.List.{List, [], ◌∷◌}
 use lib.Dec.{T as Holds}
 use seplogic.Ra.Ura.{Ura}
-use mir.Syntax.{Name, named, erased, ty_int, w64, Fn, local, value_local, seq, assign, place, rv_opd, aggregate, copy, call, return}
+use mir.Syntax.{Callee, named, erased, ty_int, w64, Fn, local, value_local, seq, assign, place, rv_opd, aggregate, copy, call, return}
 use mir.Val.{Val, WT, has_ty, vint, vstruct, vcons, vnil}
 use base.Logic.{SProp, ent, emp, via, fst∗, snd∗, ex_e, id⊢}
 use base.Fml.{Lft, Share, Fml, ftrue, flft}
@@ -39,20 +39,24 @@ use Rattle.held.proofs.Holders.{Holder, Answer, Says, SaysAt, slice_ty, held_ty,
 use Rattle.held.proofs.HeldLaws.{slice_is}
 
 -- `S::new(page).m()`
-abbrev pub ask_code : Holder → Answer → Name → Name → Fn
+abbrev pub ask_code : Holder → Answer → Callee → Callee → Fn
 ask_code S R n m = record {
   lifetimes = 1;
   outlives = [];
+  ty_params = [];
+  givens = 0;
   params = 1;
   locals = local R.mir value_local ∷ local (slice_ty (named 0)) value_local ∷ local (held_ty S erased) value_local ∷ [];
   body = seq (call n (copy (place 1 []) ∷ []) (place 2 [])) (seq (call m (copy (place 2 []) ∷ []) (place 0 [])) return);
 }
 
 -- `S::new(page).m(i)`
-abbrev pub place_ask_code : Holder → Answer → Name → Name → Fn
+abbrev pub place_ask_code : Holder → Answer → Callee → Callee → Fn
 place_ask_code S R n m = record {
   lifetimes = 1;
   outlives = [];
+  ty_params = [];
+  givens = 0;
   params = 2;
   locals = local R.mir value_local ∷ local (slice_ty (named 0)) value_local ∷ local (ty_int w64) value_local ∷ local (held_ty S erased) value_local ∷ [];
   body = seq (call n (copy (place 1 []) ∷ []) (place 3 [])) (seq (call m (copy (place 3 []) ∷ copy (place 2 []) ∷ []) (place 0 [])) return);
@@ -66,10 +70,12 @@ pub record Pair (R Q : Answer) : Type 2 where
   pub made : {M : Type 1} {𝓤 : Ura M} (𝓛 : Logic 𝓤) (κs : Lfts 1) → Makes 𝓛 (whole.row κs) (Is (whole.row κs))
 
 -- `let p = S::new(page); P { .. p.m(), .. p.k() }`
-abbrev pub ask_both_code : (S : Holder) (R Q : Answer) → Pair R Q → Name → Name → Name → Fn
+abbrev pub ask_both_code : (S : Holder) (R Q : Answer) → Pair R Q → Callee → Callee → Callee → Fn
 ask_both_code S R Q P n m k = record {
   lifetimes = 1;
   outlives = [];
+  ty_params = [];
+  givens = 0;
   params = 1;
   locals =
       local P.whole.mir value_local ∷ local (slice_ty (named 0)) value_local ∷ local (held_ty S erased) value_local ∷ local R.mir value_local
@@ -148,7 +154,7 @@ module _ {M : Type 1} {𝓤 : Ura M} (𝓛 : Logic 𝓤) (S : Holder) (κ : Lft)
         suffices ! _ (ends_at 𝓛 (of_slice R) (ask_stayed R) (slice_says 𝓤 R φ) ((κs, (q, tt), tt, (s, tt), (slice_is s ∷ [], tt)), tt) u r (tt, tt) (tt, tt)) $ says ! e $
         move ! (1 ∷ []) $ frame ! $ nothing ! $ nothing ! $ fjoin ! $ done !
 
-    ask-walk : (C : Calls 𝓤 H) (Λ : Loops 𝓤 H) (n m : Name) → FmC 𝓤 H 𝓛.laws C → Triple 𝓤 (C n) (MakesHeld 𝓤 𝓛 S) → Triple 𝓤 (C m) (OfHeld 𝓤 𝓛 S R φ) → Is (slice_row κs) s (slice_is s ∷ [])
+    ask-walk : (C : Calls 𝓤 H) (Λ : Loops 𝓤 H) (n m : Callee) → FmC 𝓤 H 𝓛.laws C → Triple 𝓤 (C n) (MakesHeld 𝓤 𝓛 S) → Triple 𝓤 (C m) (OfHeld 𝓤 𝓛 S R φ) → Is (slice_row κs) s (slice_is s ∷ [])
         → ent 𝓤 ask-entry (WpFn 𝓤 H C Λ (ask_code S R n m) (slice_is s ∷ []) ask-post)
     ask-walk C Λ n m fm known-new known p =
         qed 𝓛 (raw ask-entry ∷ []) ∵ enter ! C Λ (ask_code S R n m) (slice_is s ∷ []) _ $
@@ -209,7 +215,7 @@ module _ {M : Type 1} {𝓤 : Ura M} (𝓛 : Logic 𝓤) (S : Holder) (κ : Lft)
         suffices ! _ (ends_at 𝓛 (of_slice_at R) (place_stayed R) (slice_says_at 𝓤 R φ) ((κs, (q, tt), tt, (s, (i, tt)), place-vals), tt) u r (tt, (tt, tt)) (tt, (tt, tt))) $ says ! e $
         move ! (1 ∷ []) $ frame ! $ nothing ! $ nothing ! $ fjoin ! $ nothing ! $ fjoin ! $ done !
 
-    place-ask-walk : (C : Calls 𝓤 H) (Λ : Loops 𝓤 H) (n m : Name) → FmC 𝓤 H 𝓛.laws C → Triple 𝓤 (C n) (MakesHeld 𝓤 𝓛 S) → Triple 𝓤 (C m) (OfHeldAt 𝓤 𝓛 S R φ) → Is (slice_row κs) s (slice_is s ∷ []) → i < 2 ^ 64
+    place-ask-walk : (C : Calls 𝓤 H) (Λ : Loops 𝓤 H) (n m : Callee) → FmC 𝓤 H 𝓛.laws C → Triple 𝓤 (C n) (MakesHeld 𝓤 𝓛 S) → Triple 𝓤 (C m) (OfHeldAt 𝓤 𝓛 S R φ) → Is (slice_row κs) s (slice_is s ∷ []) → i < 2 ^ 64
         → ent 𝓤 place-entry (WpFn 𝓤 H C Λ (place_ask_code S R n m) (slice_is s ∷ vint w64 i ∷ []) place-post)
     place-ask-walk C Λ n m fm known-new known p fits =
         qed 𝓛 (raw place-entry ∷ []) ∵ enter ! C Λ (place_ask_code S R n m) (slice_is s ∷ vint w64 i ∷ []) _ $
@@ -237,7 +243,7 @@ module _ {M : Type 1} {𝓤 : Ura M} (𝓛 : Logic 𝓤) (S : Holder) (κ : Lft)
     abbrev both : Val → Val → Val
     both u v = vstruct (vcons u (vcons v vnil))
 
-    ask-both-walk : (C : Calls 𝓤 H) (Λ : Loops 𝓤 H) (n m k : Name) → FmC 𝓤 H 𝓛.laws C → Triple 𝓤 (C n) (MakesHeld 𝓤 𝓛 S) → Triple 𝓤 (C m) (OfHeld 𝓤 𝓛 S R φ) → Triple 𝓤 (C k) (OfHeld 𝓤 𝓛 S Q ψ)
+    ask-both-walk : (C : Calls 𝓤 H) (Λ : Loops 𝓤 H) (n m k : Callee) → FmC 𝓤 H 𝓛.laws C → Triple 𝓤 (C n) (MakesHeld 𝓤 𝓛 S) → Triple 𝓤 (C m) (OfHeld 𝓤 𝓛 S R φ) → Triple 𝓤 (C k) (OfHeld 𝓤 𝓛 S Q ψ)
         → ((b : List ℕ) (r : (R.row κs).Denot) (t : (Q.row κs).Denot) → φ κs b r → ψ κs b t → χ κs b (P.pair κs r t)) → Is (slice_row κs) s (slice_is s ∷ [])
         → ent 𝓤 (ask-entry P.whole χ) (WpFn 𝓤 H C Λ (ask_both_code S R Q P n m k) (slice_is s ∷ []) (ask-post P.whole χ))
     ask-both-walk C Λ n m k fm known-new known known' told p =
@@ -276,14 +282,14 @@ module _ {M : Type 1} {𝓤 : Ura M} (𝓛 : Logic 𝓤) (S : Holder) (κ : Lft)
 module _ {M : Type 1} {𝓤 : Ura M} (𝓛 : Logic 𝓤) (S : Holder) where
   open 𝓛 use {H}
 
-  pub ask_meets : (R : Answer) (φ : Says R) (n m : Name) (𝓣 : Tables 𝓤 H) → Triple 𝓤 (𝓣.C n) (MakesHeld 𝓤 𝓛 S) → Triple 𝓤 (𝓣.C m) (OfHeld 𝓤 𝓛 S R φ)
+  pub ask_meets : (R : Answer) (φ : Says R) (n m : Callee) (𝓣 : Tables 𝓤 H) → Triple 𝓤 (𝓣.C n) (MakesHeld 𝓤 𝓛 S) → Triple 𝓤 (𝓣.C m) (OfHeld 𝓤 𝓛 S R φ)
       → Meets 𝓛 (of_slice R).signature (WpFn 𝓤 H 𝓣.C 𝓣.Λ (ask_code S R n m)) (closing 𝓛 (of_slice R) (slice_says 𝓤 R φ))
   ask_meets R φ n m 𝓣 known-new known =
       walk_Meets 𝓛 (of_slice R) (ask_stayed R) (Goes-dropped 𝓛 1 (plain slice_row) yes (λ κs x f. refl), tt) (slice_says 𝓤 R φ) _ (WpFn-mono 𝓤 H 𝓛.laws 𝓣 (ask_code S R n m))
       (walked 𝓛 (of_slice R) (ask_stayed R) (slice_says 𝓤 R φ) (WpFn 𝓤 H 𝓣.C 𝓣.Λ (ask_code S R n m)) (λ κs. (shr_slice_vals, tt)) (λ κs. (shr_slice_Tells (named 0) κs.0 u8, tt))
       (λ κs qs bounds a g are. via 𝓤 _ (fst∗ 𝓤 _ (emp 𝓤)) (ask-walk 𝓛 S κs.0 qs.0 a.0 R φ 𝓣.C 𝓣.Λ n m (fm_of 𝓤 H 𝓛.laws 𝓣) known-new known are.0)))
 
-  pub place_ask_meets : (R : Answer) (φ : SaysAt R) (n m : Name) (𝓣 : Tables 𝓤 H) → Triple 𝓤 (𝓣.C n) (MakesHeld 𝓤 𝓛 S) → Triple 𝓤 (𝓣.C m) (OfHeldAt 𝓤 𝓛 S R φ)
+  pub place_ask_meets : (R : Answer) (φ : SaysAt R) (n m : Callee) (𝓣 : Tables 𝓤 H) → Triple 𝓤 (𝓣.C n) (MakesHeld 𝓤 𝓛 S) → Triple 𝓤 (𝓣.C m) (OfHeldAt 𝓤 𝓛 S R φ)
       → Meets 𝓛 (of_slice_at R).signature (WpFn 𝓤 H 𝓣.C 𝓣.Λ (place_ask_code S R n m)) (closing 𝓛 (of_slice_at R) (slice_says_at 𝓤 R φ))
   place_ask_meets R φ n m 𝓣 known-new known =
       walk_Meets 𝓛 (of_slice_at R) (place_stayed R) (Goes-dropped 𝓛 1 (plain slice_row) yes (λ κs x f. refl), (Goes-dropped 𝓛 1 (plain (λ κs. usize)) yes (λ κs x f. refl), tt)) (slice_says_at 𝓤 R φ) _ (WpFn-mono 𝓤 H 𝓛.laws 𝓣 (place_ask_code S R n m))
@@ -291,7 +297,7 @@ module _ {M : Type 1} {𝓤 : Ura M} (𝓛 : Logic 𝓤) (S : Holder) where
       (λ κs qs bounds a g are. via 𝓤 _ (fst∗ 𝓤 _ (emp 𝓤)) (place-ask-walk 𝓛 S κs.0 qs.0 a.0 R φ a.1.0 𝓣.C 𝓣.Λ n m (fm_of 𝓤 H 𝓛.laws 𝓣) known-new known are.0 are.1.0.1)))
 
   pub ask_both_meets : (R Q : Answer) (P : Pair R Q) (φ : Says R) (ψ : Says Q) (χ : Says P.whole) → ((κs : Lfts 1) (b : List ℕ) (r : (R.row κs).Denot) (t : (Q.row κs).Denot) → φ κs b r → ψ κs b t → χ κs b (P.pair κs r t))
-      → (n m k : Name) (𝓣 : Tables 𝓤 H) → Triple 𝓤 (𝓣.C n) (MakesHeld 𝓤 𝓛 S) → Triple 𝓤 (𝓣.C m) (OfHeld 𝓤 𝓛 S R φ) → Triple 𝓤 (𝓣.C k) (OfHeld 𝓤 𝓛 S Q ψ)
+      → (n m k : Callee) (𝓣 : Tables 𝓤 H) → Triple 𝓤 (𝓣.C n) (MakesHeld 𝓤 𝓛 S) → Triple 𝓤 (𝓣.C m) (OfHeld 𝓤 𝓛 S R φ) → Triple 𝓤 (𝓣.C k) (OfHeld 𝓤 𝓛 S Q ψ)
       → Meets 𝓛 (of_slice P.whole).signature (WpFn 𝓤 H 𝓣.C 𝓣.Λ (ask_both_code S R Q P n m k)) (closing 𝓛 (of_slice P.whole) (slice_says 𝓤 P.whole χ))
   ask_both_meets R Q P φ ψ χ told n m k 𝓣 known-new known known' =
       walk_Meets 𝓛 (of_slice P.whole) (ask_stayed P.whole) (Goes-dropped 𝓛 1 (plain slice_row) yes (λ κs x f. refl), tt) (slice_says 𝓤 P.whole χ) _ (WpFn-mono 𝓤 H 𝓛.laws 𝓣 (ask_both_code S R Q P n m k))

@@ -8,7 +8,7 @@ use mathlib.Core.List.{List, [], ◌∷◌}
 use lib.Dec.{T as Holds}
 use lib.ListN.{length}
 use seplogic.Ra.Ura.{Ura}
-use mir.Syntax.{Name, named, erased, ty_int, w64, Fn, local, value_local, seq, assign, place, rv_opd, aggregate, copy, field, call, return}
+use mir.Syntax.{Callee, named, erased, ty_int, w64, Fn, local, value_local, seq, assign, place, rv_opd, aggregate, copy, field, call, return}
 use mir.Val.{Val, WT, has_ty, vint, vstruct, vcons, vnil}
 use base.Logic.{SProp, ent, emp, via, fst∗, snd∗, ex_e, id⊢}
 use base.Fml.{Lft, Share, Fml, ftrue, flft}
@@ -53,6 +53,8 @@ abbrev pub new_code : Holder → Fn
 new_code S = record {
   lifetimes = 1;
   outlives = [];
+  ty_params = [];
+  givens = 0;
   params = 1;
   locals = local (held_ty S (named 0)) value_local ∷ local (slice_ty (named 0)) value_local ∷ [];
   body = seq (assign (place 0 []) (aggregate (copy (place 1 []) ∷ []))) return;
@@ -105,16 +107,18 @@ module _ {M : Type 1} {𝓤 : Ura M} (𝓛 : Logic 𝓤) (S : Holder) where
 
 -- ---- a method: `f(self.0)`
 
-abbrev pub method_code : Holder → Answer → Name → Fn
+abbrev pub method_code : Holder → Answer → Callee → Fn
 method_code S R f = record {
   lifetimes = 1;
   outlives = [];
+  ty_params = [];
+  givens = 0;
   params = 1;
   locals = local R.mir value_local ∷ local (held_ty S (named 0)) value_local ∷ local (slice_ty erased) value_local ∷ [];
   body = seq (assign (place 2 []) (rv_opd (copy (place 1 (field 0 ∷ []))))) (seq (call f (copy (place 2 []) ∷ []) (place 0 [])) return);
 }
 
-module _ {M : Type 1} {𝓤 : Ura M} (𝓛 : Logic 𝓤) (S : Holder) (R : Answer) (φ : Says R) (f : Name) where
+module _ {M : Type 1} {𝓤 : Ura M} (𝓛 : Logic 𝓤) (S : Holder) (R : Answer) (φ : Says R) (f : Callee) where
   open 𝓛 use {H}
 
   abbrev method-stayed : Stays (of_held S R).signature.params (of_held S R).kept
@@ -179,16 +183,18 @@ module _ {M : Type 1} {𝓤 : Ura M} (𝓛 : Logic 𝓤) (S : Holder) (R : Answe
 
 -- ---- a method with a place: `f(self.0, i)`
 
-abbrev pub place_method_code : Holder → Answer → Name → Fn
+abbrev pub place_method_code : Holder → Answer → Callee → Fn
 place_method_code S R f = record {
   lifetimes = 1;
   outlives = [];
+  ty_params = [];
+  givens = 0;
   params = 2;
   locals = local R.mir value_local ∷ local (held_ty S (named 0)) value_local ∷ local (ty_int w64) value_local ∷ local (slice_ty erased) value_local ∷ [];
   body = seq (assign (place 3 []) (rv_opd (copy (place 1 (field 0 ∷ []))))) (seq (call f (copy (place 3 []) ∷ copy (place 2 []) ∷ []) (place 0 [])) return);
 }
 
-module _ {M : Type 1} {𝓤 : Ura M} (𝓛 : Logic 𝓤) (S : Holder) (R : Answer) (φ : SaysAt R) (f : Name) where
+module _ {M : Type 1} {𝓤 : Ura M} (𝓛 : Logic 𝓤) (S : Holder) (R : Answer) (φ : SaysAt R) (f : Callee) where
   open 𝓛 use {H}
 
   abbrev place_stayed : Stays (of_held_at S R).signature.params (of_held_at S R).kept

@@ -1,6 +1,6 @@
 -- Structs that hold one lent slice of bytes, the types of what their methods answer, and the contracts of the functions over them.
 -- Assumes nothing: these are definitions.
-use mathlib.Core.Path.{◌≡◌}
+use mathlib.Core.Path.{◌≡◌, refl}
 use Prim.Native.Nat.{ℕ}
 use mathlib.Core.List.{List, [], ◌∷◌}
 use lib.Dec.{T as Holds}
@@ -13,7 +13,7 @@ use contract.Lifetimes.{Lfts}
 use contract.Monad.{fact}
 use denote.RattleType.{RattleType}
 use denote.Laws.{Is}
-use denote.Plain.{UInt, uint_Lawful}
+use denote.Plain.{UInt, uint_row_laws, uint_Lawful}
 use denote.Builtin.{u8, usize, SliceRefOf}
 use denote.Ref.{Bor, NamedLft}
 use denote.Signature.{plain, named_lft}
@@ -48,13 +48,31 @@ held_ty S ℓ = ty_struct S.name (tcons (slice_ty ℓ) tnil)
 
 -- the struct's type, its laws, and that it can be copied
 abbrev pub held : Holder → NamedLft → Declared
-held S a = record { name = S.name; args = a.mir ∷ []; parts = shr_slice_field a u8 tt ∷ []; D = S.D; to = λ d. (S.page d, tt); to_one = S.one a }
+held S a = record {
+  name = S.name;
+  args = a.mir ∷ [];
+  types = [];
+  parts = shr_slice_field a u8 tt ∷ [];
+  D = S.D;
+  to = λ d. (S.page d, tt);
+  to_one = S.one a;
+  as_values = λ d. (S.page d, tt);
+  to_is = λ d. refl;
+  cover = record {
+    Ghost = λ v. Unit {0};
+    ghosts = λ d. tt;
+    make = λ v g. S.make v.0;
+    eta = λ d. S.one a (S.make (S.page d)) d (λ i. (S.kept (S.page d) i, tt));
+    beta = λ v g i. (S.kept v.0 i, tt);
+  };
+  propositions = λ v x y. refl;
+}
 
 abbrev pub laws : (S : Holder) (a : NamedLft) → LL.Laws (held S a)
 laws S a = (LL.shr_slice_laws a u8 tt, tt)
 
 abbrev pub copies : (S : Holder) (a : NamedLft) → LL.Copyables (held S a).parts
-copies S a = (LL.shr_slice_copy a u8 tt, tt)
+copies S a = (LL.shr_slice_copy a u8 tt (uint_row_laws w8), tt)
 
 -- a signature's one lifetime, and at it the struct's row and the slice's
 abbrev pub α : Lfts 1 → NamedLft
