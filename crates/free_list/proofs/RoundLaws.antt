@@ -3,10 +3,10 @@ use Prim.Native.Nat.{ℕ, zero, suc, ◌+◌, ◌-◌, ◌≤◌}
 use native.Mathlib.Omega.{arith}
 use mathlib.Core.Path.{◌≡◌, refl, sym, ap, ◌∙◌, subst}
 use mathlib.Core.Logic.{inl, inr}
-use mathlib.Core.Bool.{Bool, true, false, ◌&&◌, ◌||◌}
+use mathlib.Core.Bool.{Bool, true, false, ◌&&◌}
 use mathlib.Core.List.{List, []}
 use lib.Dec.{eqb, leb}
-use borrow.Author.Tests.{lt-ltb, eq-eqb, ne_eqb, eqb-true, leb-true}
+use borrow.Author.Tests.{lt-ltb, ne_eqb, eqb-true, leb-true}
 use Rattle.refusal.specs.Outcome.{refused}
 use Rattle.laws.proofs.Tests.{and-true}
 use Rattle.page.specs.PageSize.{capacity}

@@ -13,7 +13,7 @@ use borrow.Author.Tests.{lt-ltb, ne_eqb}
 use Rattle.refusal.specs.Outcome.{answer}
 use Rattle.page.specs.PageSize.{capacity}
 use Rattle.page.specs.Pages.{page_count, page_at}
-use Rattle.free_list.specs.ListPages.{count_of, entries_of}
+use Rattle.free_list.specs.ListPages.{count_of}
 use Rattle.free_list.specs.Shape.{FreeList, entries_below, entries_on, head_of, previous}
 use Rattle.free_list.specs.StoredList.{StoredList}
 use Rattle.free_list.specs.Reading.{empty_list, on_top, count_fits, all_entries_fit, read_from, list_from, read_list}

@@ -1,29 +1,22 @@
--- `visit` meets its contract: its tests are those of the definition, in order.
--- Assumes nothing.
-use Prim.Native.Nat.{ℕ, ◌+◌, ◌*◌, ◌-◌, ◌<◌, ◌≤◌}
-use mathlib.Core.Path.{◌≡◌, refl, sym, ◌∙◌, ap}
-use mathlib.Core.Bool.{Bool, true, false}
-use mathlib.Core.List.{List, [], ◌∷◌}
-use native.Mathlib.Omega.{arith}
-use lib.ListN.{length}
-use borrow.Author.Tests.{not-true, not-false}
-use Rattle.refusal.specs.Outcome.{refused}
+use Rattle.std.proofs.Common.{◌≡◌, ◌+◌, ◌*◌, ◌<◌, ◌≤◌, length, ℕ, ◌-◌, Bool, true, false, List, [], ◌∷◌}
 use Rattle.page.specs.Bytes.{numbers_at}
+use Rattle.free_list.specs.Reading.{count_fits, all_entries_fit}
+use Rattle.free_list.specs.Steps.{MayVisit, Visits}
+use Rattle.free_list.proofs.walk.visit.Goals as goal
+use mathlib.Core.Path.{refl, sym, ◌∙◌, ap}
+use native.Mathlib.Omega.{arith}
+use Rattle.refusal.specs.Outcome.{refused}
 use Rattle.page.specs.PageSize.{capacity}
 use Rattle.page.specs.Pages.{page_count, page_at}
 use Rattle.page.proofs.PageSizeLaws.{page_least}
 use Rattle.page.proofs.PagesLaws.{page_within_lem, length-page_at}
 use Rattle.free_list.specs.ListPages.{prev_of, count_of, entries_of, prev_within, count_within}
-use Rattle.free_list.specs.Reading.{count_fits, all_entries_fit}
-use Rattle.free_list.specs.Steps.{size_from, MayVisit, Passed, Visits}
+use Rattle.free_list.specs.Steps.{size_from}
 use Rattle.free_list.specs.declared.walk.Walk.{Walk}
 use Rattle.free_list.specs.declared.walk.Visited.TheVariants.{Next}
 use Rattle.free_list.proofs.ListPagesLaws.{prev_within_lem, count_within_lem}
 use Rattle.free_list.proofs.ReadingLaws.{count_fits-small, size_past, size-count, size-entry, size-next}
 use Rattle.free_list.proofs.RoundLaws.{fits_deep}
-use borrow.Author.Rules.{rules}
-use Rattle.free_list.proofs.walk.visit.Statement.{statement}
-use Rattle.free_list.proofs.walk.visit.Tie as tie
 
 -- what is known once the count was tested: b are the bytes of the page, n its count, and `fits` the answer of the test
 record Counted (s : ℕ) (store : List ℕ) (loose : Bool) (count : ℕ) (w : Walk) (b : List ℕ) (n : ℕ) (fits : Bool) : Type 0 where
@@ -85,79 +78,32 @@ module _ {s : ℕ} {store : List ℕ} {loose : Bool} {count : ℕ} {w : Walk} {b
               };
         }
 
-returns : tie.Need-returns
+-- src/walk.rt:89:9
+pub returns-then-count-page : goal.returns-then-count-page
+returns-then-count-page c =
+    let may = c.requires in
+    record { size = size_past _ _ _ _ may.allowed may.some (omega (arith, may.counted, c.if-count-page.true)); advanced = tt }
+
+-- src/walk.rt:95:9
+pub returns-then-not-count_fits : goal.returns-then-not-count_fits
+returns-then-not-count_fits c =
+    let f = counted c.requires c.if-count-page.false c.page_at-b.ensures c.header-h.ensures.1 c.max_pns_per_page.ensures c.count_fits.ensures in
+    record { size = count-unfit f c.if-not-count_fits.true; advanced = tt }
+
+-- src/walk.rt:97:9
+pub entries_fit-requires : goal.entries_fit-requires
+entries_fit-requires c =
+    let f = counted c.requires c.if-count-page.false c.page_at-b.ensures c.header-h.ensures.1 c.max_pns_per_page.ensures c.count_fits.ensures in
+    (few f c.if-not-count_fits.false, room f c.if-not-count_fits.false)
+
+-- src/walk.rt:98:9
+pub returns-then-not-entries_fit : goal.returns-then-not-entries_fit
+returns-then-not-entries_fit c =
+    let f = counted c.requires c.if-count-page.false c.page_at-b.ensures c.header-h.ensures.1 c.max_pns_per_page.ensures c.count_fits.ensures in
+    record { size = entry-unfit f c.if-not-count_fits.false c.entries_fit.ensures c.if-not-entries_fit.true; advanced = tt }
+
+-- src/walk.rt:83:1
+pub returns : goal.returns
 returns c =
-    let may = c.before.before.requires in
-    record { size = size_past _ _ _ _ may.allowed may.some (omega (arith, may.counted, c.if1.true)); advanced = tt }
-
-page-at-requires : tie.Need-page-at-requires
-page-at-requires c κs = let may = c.before.before.requires in (may.size, omega (arith, may.counted, c.if1.false))
-
-max-pns-per-page-requires : tie.Need-max-pns-per-page-requires
-max-pns-per-page-requires c κs = c.before.before.before.before.before.requires.size
-
-count-fits-requires : tie.Need-count-fits-requires
-count-fits-requires c κs = omega arith
-
-returns-2 : tie.Need-returns-2
-returns-2 c =
-    let at_count = c.before in
-    let at-header = at_count.before.before.before in
-    let at-page = at-header.before in
-    let f = counted at-page.before.before.before.requires at-page.before.if1.false at-page.page-at.ensures at-header.header.ensures.1 at_count.before.max-pns-per-page.ensures at_count.count_fits.ensures in
-    record { size = count-unfit f (not-true _ c.if2.true); advanced = tt }
-
-entries-fit-requires : tie.Need-entries-fit-requires
-entries-fit-requires c κs =
-    let at_count = c.before in
-    let at-header = at_count.before.before.before in
-    let at-page = at-header.before in
-    let f = counted at-page.before.before.before.requires at-page.before.if1.false at-page.page-at.ensures at-header.header.ensures.1 at_count.before.max-pns-per-page.ensures at_count.count_fits.ensures in
-    (few f (not-false _ c.if2.false), room f (not-false _ c.if2.false))
-
-returns-3 : tie.Need-returns-3
-returns-3 c =
-    let at_count = c.before.before.before in
-    let at-header = at_count.before.before.before in
-    let at-page = at-header.before in
-    let f = counted at-page.before.before.before.requires at-page.before.if1.false at-page.page-at.ensures at-header.header.ensures.1 at_count.before.max-pns-per-page.ensures at_count.count_fits.ensures in
-    record { size = entry-unfit f (not-false _ c.before.before.if2.false) c.before.entries_fit.ensures (not-true _ c.if3.true); advanced = tt }
-
-sub-t12 : tie.Need-overflow-sub-t12
-sub-t12 c = let at_count = c.before.before.before.before in omega (arith, at_count.before.before.before.before.before.before.before.requires.allowed)
-
-add-t16 : tie.Need-overflow-add-t16
-add-t16 c = let at_count = c.before.before.before.before.before in omega (arith, at_count.before.before.before.before.before.before.before.requires.fits.few)
-
-add-t17 : tie.Need-overflow-add-t17
-add-t17 c =
-    let at_count = c.before.before.before.before.before.before in
-    let may = at_count.before.before.before.before.before.before.before.requires in
-    omega (arith, may.fits.few, may.fits.few_entries)
-
-returns-4 : tie.Need-returns-4
-returns-4 c =
-    let at-entries = c.before.before.before.before in
-    let at_count = at-entries.before.before in
-    let at-header = at_count.before.before.before in
-    let at-page = at-header.before in
-    let f = counted at-page.before.before.before.requires at-page.before.if1.false at-page.page-at.ensures at-header.header.ensures.1 at_count.before.max-pns-per-page.ensures at_count.count_fits.ensures in
-    next f (not-false _ at-entries.before.if2.false) at-entries.entries_fit.ensures at-header.header.ensures.0 (not-false _ c.before.before.before.if3.false)
-
-pub visit-spec : {M : Type 1} → statement M
-visit-spec =
-    tie.close
-    (tie.spec
-    returns
-    page-at-requires
-    (search rules)
-    (search rules)
-    max-pns-per-page-requires
-    count-fits-requires
-    returns-2
-    entries-fit-requires
-    returns-3
-    sub-t12
-    add-t16
-    add-t17
-    returns-4)
+    let f = counted c.requires c.if-count-page.false c.page_at-b.ensures c.header-h.ensures.1 c.max_pns_per_page.ensures c.count_fits.ensures in
+    next f c.if-not-count_fits.false c.entries_fit.ensures c.header-h.ensures.0 c.if-not-entries_fit.false
