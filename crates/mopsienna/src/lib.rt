@@ -1,4 +1,4 @@
-// The C interface: each operation of document 01 as a function that a host calls.
+// The functions of the C interface: each operation of document 01. The crate mopsienna_c exports them.
 //
 // A function returns 0, or document 01's number of the refusal. Its values go to `out`, whose other places stay as they were.
 // include/mopsienna.h is the manual.

@@ -5,8 +5,7 @@ ghost use Rattle.calls.specs.Lists.{ReadsList};
 use page::size::PAGE_SIZE;
 
 // out: P, L. Refusals 2, 3 and 4: the page.
-#[unsafe(no_mangle)]
-pub extern "C" fn mopsienna_read_list(
+pub fn mopsienna_read_list(
     store: &[u8],
     head: u32,
     pages: &mut [u32],

@@ -5,8 +5,7 @@ ghost use Rattle.calls.specs.Lookups.{LooksUp};
 use page::size::PAGE_SIZE;
 
 // out: 0 for the pending pages or 1 for the store, the byte there at which the page starts. Refusal 15: the page.
-#[unsafe(no_mangle)]
-pub extern "C" fn mopsienna_lookup(
+pub fn mopsienna_lookup(
     numbers: &[u32],
     pending: &[u8],
     store: &[u8],

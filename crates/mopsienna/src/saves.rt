@@ -5,8 +5,7 @@ ghost use Rattle.calls.specs.Saves.{HandsOut, Finishes};
 use page::size::PAGE_SIZE;
 
 // out: the number, the count of numbers handed out, the recorded length.
-#[unsafe(no_mangle)]
-pub extern "C" fn mopsienna_hand_out(
+pub fn mopsienna_hand_out(
     bump: u32,
     length: u32,
     p: u64,
@@ -22,8 +21,7 @@ pub extern "C" fn mopsienna_hand_out(
 }
 
 // out: head, bump, recorded length, P, L, pages written. Refusal 8: the place of the freed number.
-#[unsafe(no_mangle)]
-pub extern "C" fn mopsienna_finish(
+pub fn mopsienna_finish(
     bump: u32,
     length: u32,
     p: u64,

@@ -5,16 +5,14 @@ ghost use Rattle.calls.specs.Totals.{Grows, TellsTotal};
 use page::size::PAGE_SIZE;
 
 // out: the new length.
-#[unsafe(no_mangle)]
-pub extern "C" fn mopsienna_grow(page: u32, out: &mut [u64; 8]) -> u32
+pub fn mopsienna_grow(page: u32, out: &mut [u64; 8]) -> u32
     ensures { Grows page out result }
 {
     calls::totals::grow(page, out)
 }
 
 // out: total, numbers in the cell, spare room.
-#[unsafe(no_mangle)]
-pub extern "C" fn mopsienna_total(size: u64, out: &mut [u64; 8]) -> u32
+pub fn mopsienna_total(size: u64, out: &mut [u64; 8]) -> u32
     ensures { TellsTotal standard size out result }
 {
     calls::totals::total(PAGE_SIZE, size, out)

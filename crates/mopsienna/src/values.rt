@@ -5,42 +5,28 @@ ghost use Rattle.calls.specs.Values.{WritesPage, EncodesCell, DecodesCell, Reads
 use page::size::PAGE_SIZE;
 
 // Writes page `index` of a value to the start of the page buffer.
-#[unsafe(no_mangle)]
-pub extern "C" fn mopsienna_write_value_page(
-    value: &[u8],
-    numbers: &[u32],
-    index: u64,
-    page: &mut [u8],
-) -> u32
+pub fn mopsienna_write_value_page(value: &[u8], numbers: &[u32], index: u64, page: &mut [u8]) -> u32
     ensures { WritesPage standard value numbers index page result }
 {
     calls::values::write_value_page(PAGE_SIZE, value, numbers, index, page)
 }
 
 // Writes a cell to the start of the cell buffer: its size, hash and numbers.
-#[unsafe(no_mangle)]
-pub extern "C" fn mopsienna_encode_cell(
-    size: u64,
-    hash: &[u8; 32],
-    numbers: &[u32],
-    buffer: &mut [u8],
-) -> u32
+pub fn mopsienna_encode_cell(size: u64, hash: &[u8; 32], numbers: &[u32], buffer: &mut [u8]) -> u32
     ensures { EncodesCell standard size hash numbers buffer result }
 {
     calls::values::encode_cell(PAGE_SIZE, size, hash, numbers, buffer)
 }
 
 // out: size, count of numbers.
-#[unsafe(no_mangle)]
-pub extern "C" fn mopsienna_decode_cell(cell: &[u8], hash: &mut [u8; 32], out: &mut [u64; 8]) -> u32
+pub fn mopsienna_decode_cell(cell: &[u8], hash: &mut [u8; 32], out: &mut [u64; 8]) -> u32
     ensures { DecodesCell standard cell hash out result }
 {
     calls::values::decode_cell(PAGE_SIZE, cell, hash, out)
 }
 
 // out: size, numbers found. Refusals 14, 15 and 16: the index in the walk.
-#[unsafe(no_mangle)]
-pub extern "C" fn mopsienna_read_value(
+pub fn mopsienna_read_value(
     cell: &[u8],
     store: &[u8],
     numbers: &mut [u32],
@@ -53,8 +39,7 @@ pub extern "C" fn mopsienna_read_value(
 }
 
 // out: numbers found. Refusals 14, 15 and 16: the index in the walk.
-#[unsafe(no_mangle)]
-pub extern "C" fn mopsienna_delete_value(
+pub fn mopsienna_delete_value(
     cell: &[u8],
     store: &[u8],
     numbers: &mut [u32],

@@ -1,4 +1,4 @@
-// The operations of the C interface at any page size, for the comparison with the Rust and the recorded answers.
+// The operations of the C interface at any page size, for the comparison with the Rust (the crate sized_c exports them) and the recorded answers.
 //
 // A page has so many words of four bytes more than the four that the least page has.
 #![tactic(auto)]
@@ -12,8 +12,7 @@ ghost use Rattle.calls.specs.Values.{WritesPage, EncodesCell, DecodesCell, Reads
 
 use page::size::PageSize;
 
-#[unsafe(no_mangle)]
-pub extern "C" fn sized_read_list(
+pub fn sized_read_list(
     words: u64,
     store: &[u8],
     head: u32,
@@ -26,8 +25,7 @@ pub extern "C" fn sized_read_list(
     calls::lists::read_list(PageSize(words as usize), store, head, pages, entries, out)
 }
 
-#[unsafe(no_mangle)]
-pub extern "C" fn sized_lookup(
+pub fn sized_lookup(
     words: u64,
     numbers: &[u32],
     pending: &[u8],
@@ -40,8 +38,7 @@ pub extern "C" fn sized_lookup(
     calls::lookups::lookup(PageSize(words as usize), numbers, pending, store, page, out)
 }
 
-#[unsafe(no_mangle)]
-pub extern "C" fn sized_hand_out(
+pub fn sized_hand_out(
     words: u64,
     bump: u32,
     length: u32,
@@ -67,8 +64,7 @@ pub extern "C" fn sized_hand_out(
     )
 }
 
-#[unsafe(no_mangle)]
-pub extern "C" fn sized_finish(
+pub fn sized_finish(
     words: u64,
     bump: u32,
     length: u32,
@@ -100,15 +96,13 @@ pub extern "C" fn sized_finish(
     )
 }
 
-#[unsafe(no_mangle)]
-pub extern "C" fn sized_total(words: u64, size: u64, out: &mut [u64; 8]) -> u32
+pub fn sized_total(words: u64, size: u64, out: &mut [u64; 8]) -> u32
     ensures { TellsTotal (page_size_of words) size out result }
 {
     calls::totals::total(PageSize(words as usize), size, out)
 }
 
-#[unsafe(no_mangle)]
-pub extern "C" fn sized_write_value_page(
+pub fn sized_write_value_page(
     words: u64,
     value: &[u8],
     numbers: &[u32],
@@ -120,8 +114,7 @@ pub extern "C" fn sized_write_value_page(
     calls::values::write_value_page(PageSize(words as usize), value, numbers, index, page)
 }
 
-#[unsafe(no_mangle)]
-pub extern "C" fn sized_encode_cell(
+pub fn sized_encode_cell(
     words: u64,
     size: u64,
     hash: &[u8; 32],
@@ -133,20 +126,13 @@ pub extern "C" fn sized_encode_cell(
     calls::values::encode_cell(PageSize(words as usize), size, hash, numbers, buffer)
 }
 
-#[unsafe(no_mangle)]
-pub extern "C" fn sized_decode_cell(
-    words: u64,
-    cell: &[u8],
-    hash: &mut [u8; 32],
-    out: &mut [u64; 8],
-) -> u32
+pub fn sized_decode_cell(words: u64, cell: &[u8], hash: &mut [u8; 32], out: &mut [u64; 8]) -> u32
     ensures { DecodesCell (page_size_of words) cell hash out result }
 {
     calls::values::decode_cell(PageSize(words as usize), cell, hash, out)
 }
 
-#[unsafe(no_mangle)]
-pub extern "C" fn sized_read_value(
+pub fn sized_read_value(
     words: u64,
     cell: &[u8],
     store: &[u8],
@@ -159,8 +145,7 @@ pub extern "C" fn sized_read_value(
     calls::values::read_value(PageSize(words as usize), cell, store, numbers, value, out)
 }
 
-#[unsafe(no_mangle)]
-pub extern "C" fn sized_delete_value(
+pub fn sized_delete_value(
     words: u64,
     cell: &[u8],
     store: &[u8],

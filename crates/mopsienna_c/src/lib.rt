@@ -1,0 +1,11 @@
+// The C interface as a static library: each function of the crate mopsienna, exported with its contract.
+//
+// A function returns 0, or document 01's number of the refusal. Its values go to `out`, whose other places stay as they were.
+// include/mopsienna.h is the manual.
+#![tactic(auto)]
+
+pub mod lists;
+pub mod lookups;
+pub mod saves;
+pub mod totals;
+pub mod values;

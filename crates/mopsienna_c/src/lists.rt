@@ -1,0 +1,17 @@
+// The free list: reading it from a store.
+ghost use Rattle.page.specs.PageSize.{standard};
+ghost use Rattle.calls.specs.Lists.{ReadsList};
+
+// out: P, L. Refusals 2, 3 and 4: the page.
+#[unsafe(no_mangle)]
+pub extern "C" fn mopsienna_read_list(
+    store: &[u8],
+    head: u32,
+    pages: &mut [u32],
+    entries: &mut [u32],
+    out: &mut [u64; 8],
+) -> u32
+    ensures { ReadsList standard store head pages entries out result }
+{
+    mopsienna::lists::mopsienna_read_list(store, head, pages, entries, out)
+}

@@ -1,0 +1,150 @@
+// The functions of the crate sized as a static library, for the comparison with the Rust: each is exported with its contract.
+//
+// A page has so many words of four bytes more than the four that the least page has.
+#![tactic(auto)]
+
+ghost use Rattle.sized.specs.Sizes.{page_size_of};
+ghost use Rattle.calls.specs.Lists.{ReadsList};
+ghost use Rattle.calls.specs.Lookups.{LooksUp};
+ghost use Rattle.calls.specs.Saves.{HandsOut, Finishes};
+ghost use Rattle.calls.specs.Totals.{TellsTotal};
+ghost use Rattle.calls.specs.Values.{WritesPage, EncodesCell, DecodesCell, ReadsValue, DeletesValue};
+
+#[unsafe(no_mangle)]
+pub extern "C" fn sized_read_list(
+    words: u64,
+    store: &[u8],
+    head: u32,
+    pages: &mut [u32],
+    entries: &mut [u32],
+    out: &mut [u64; 8],
+) -> u32
+    ensures { ReadsList (page_size_of words) store head pages entries out result }
+{
+    sized::sized_read_list(words, store, head, pages, entries, out)
+}
+
+#[unsafe(no_mangle)]
+pub extern "C" fn sized_lookup(
+    words: u64,
+    numbers: &[u32],
+    pending: &[u8],
+    store: &[u8],
+    page: u32,
+    out: &mut [u64; 8],
+) -> u32
+    ensures { LooksUp (page_size_of words) numbers pending store page out result }
+{
+    sized::sized_lookup(words, numbers, pending, store, page, out)
+}
+
+#[unsafe(no_mangle)]
+pub extern "C" fn sized_hand_out(
+    words: u64,
+    bump: u32,
+    length: u32,
+    p: u64,
+    l: u64,
+    count: u64,
+    pages: &[u32],
+    entries: &[u32],
+    out: &mut [u64; 8],
+) -> u32
+    ensures { HandsOut (page_size_of words) bump length p l count pages entries out result }
+{
+    sized::sized_hand_out(words, bump, length, p, l, count, pages, entries, out)
+}
+
+#[unsafe(no_mangle)]
+pub extern "C" fn sized_finish(
+    words: u64,
+    bump: u32,
+    length: u32,
+    p: u64,
+    l: u64,
+    count: u64,
+    pages: &mut [u32],
+    entries: &mut [u32],
+    freed: &[u32],
+    buffer: &mut [u8],
+    numbers: &mut [u32],
+    out: &mut [u64; 8],
+) -> u32
+    ensures { Finishes (page_size_of words) bump length p l count pages entries freed buffer numbers out result }
+{
+    sized::sized_finish(
+        words, bump, length, p, l, count, pages, entries, freed, buffer, numbers, out,
+    )
+}
+
+#[unsafe(no_mangle)]
+pub extern "C" fn sized_total(words: u64, size: u64, out: &mut [u64; 8]) -> u32
+    ensures { TellsTotal (page_size_of words) size out result }
+{
+    sized::sized_total(words, size, out)
+}
+
+#[unsafe(no_mangle)]
+pub extern "C" fn sized_write_value_page(
+    words: u64,
+    value: &[u8],
+    numbers: &[u32],
+    index: u64,
+    page: &mut [u8],
+) -> u32
+    ensures { WritesPage (page_size_of words) value numbers index page result }
+{
+    sized::sized_write_value_page(words, value, numbers, index, page)
+}
+
+#[unsafe(no_mangle)]
+pub extern "C" fn sized_encode_cell(
+    words: u64,
+    size: u64,
+    hash: &[u8; 32],
+    numbers: &[u32],
+    buffer: &mut [u8],
+) -> u32
+    ensures { EncodesCell (page_size_of words) size hash numbers buffer result }
+{
+    sized::sized_encode_cell(words, size, hash, numbers, buffer)
+}
+
+#[unsafe(no_mangle)]
+pub extern "C" fn sized_decode_cell(
+    words: u64,
+    cell: &[u8],
+    hash: &mut [u8; 32],
+    out: &mut [u64; 8],
+) -> u32
+    ensures { DecodesCell (page_size_of words) cell hash out result }
+{
+    sized::sized_decode_cell(words, cell, hash, out)
+}
+
+#[unsafe(no_mangle)]
+pub extern "C" fn sized_read_value(
+    words: u64,
+    cell: &[u8],
+    store: &[u8],
+    numbers: &mut [u32],
+    value: &mut [u8],
+    out: &mut [u64; 8],
+) -> u32
+    ensures { ReadsValue (page_size_of words) cell store numbers value out result }
+{
+    sized::sized_read_value(words, cell, store, numbers, value, out)
+}
+
+#[unsafe(no_mangle)]
+pub extern "C" fn sized_delete_value(
+    words: u64,
+    cell: &[u8],
+    store: &[u8],
+    numbers: &mut [u32],
+    out: &mut [u64; 8],
+) -> u32
+    ensures { DeletesValue (page_size_of words) cell store numbers out result }
+{
+    sized::sized_delete_value(words, cell, store, numbers, out)
+}
