@@ -12,7 +12,7 @@ CC11 := cc -std=c11 -Wall -Wextra -Werror -O1 -Iinclude
 
 # Builds the sizing program and runs it: on standard input, or on a sample where that is a terminal.
 run:
-	@tools/prove target/bin/sizing check sizing
+	@tools/prove run sizing target/bin/sizing
 	@if [ -t 0 ]; then printf '1\n61381\n0\n7a\n' | target/bin/sizing; else target/bin/sizing; fi
 
 # Everything that a change must pass. The gate comes last, and proves all from nothing.
@@ -25,11 +25,11 @@ test: interface limits example sized
 
 # The static library, proved.
 lib:
-	@tools/prove $(LIB) staticlib mopsienna
+	@tools/prove lib mopsienna_c $(LIB)
 
 # The operations at any page size, for the comparison and the cuts.
 sized:
-	@tools/prove target/staticlib/libsized.a staticlib sized
+	@tools/prove lib sized_c target/staticlib/libsized.a
 
 # The C interface as a C program uses it, through the header.
 interface: lib
@@ -74,7 +74,8 @@ count: lib sized
 	@cargo build --quiet --release --manifest-path oracle/Cargo.toml -p bench
 	@python3 docs/count.py
 
-# How long each crate's check takes, from nothing.
+# How long each crate's check takes, from nothing: those below it are proved already, as the lines of crates.txt stand in order.
 times:
-	@rm -rf target
-	@rt prove | grep -E '^rt: [a-z_]+ proved'
+	@rm -rf crates/*/out
+	@for crate in $$(sed -n 's/^\([a-z_]*\)[: ].*/\1/p' crates.txt); do \
+	start=$$(date +%s); (cd crates/$$crate && rt check >/dev/null 2>&1) || exit 1; echo "$$crate $$(( $$(date +%s) - start )) s"; done
