@@ -1,0 +1,24 @@
+use Rattle.std.proofs.Common.{rules, ◌≡◌, ◌≤◌, length, ℕ, ◌+◌, ◌-◌, ◌*◌, ◌<◌, ◌/◌, ◌%◌, Bool, true, false, nat_eq, nat_lt, List, [], ◌∷◌, ◌++◌, slice_index_or, slice_set, bit_and, bit_or, Fits, w8, w32, w64, Bor, MutBor}
+use Rattle.std.proofs.lemmas.List.Edits.{sets}
+use Rattle.refusal.specs.Effect.{before, effect}
+use Rattle.page.specs.PageSize.{IsPageSize, page_bytes}
+use Rattle.overflow.specs.Stored.{written_outcome}
+use Rattle.overflow.specs.Layout.{numbers_part, bytes_part}
+use Rattle.overflow.specs.Steps.{IsPageOf}
+use Rattle.overflow.specs.ValuePages.{value_page, chunk_into}
+use Rattle.overflow.proofs.chunk.numbers_on.Goals as goal
+use native.Mathlib.Omega.{arith}
+use Rattle.page.proofs.PageSizeLaws.{page_least}
+use Rattle.overflow.proofs.ChunkLaws.{product_small, numbers-part}
+
+-- src/chunk.rt:66:17
+pub overflow_sub-most : goal.overflow_sub-most
+overflow_sub-most c = omega (arith, page_least c.requires.0)
+
+-- src/chunk.rt:69:30
+pub overflow_mul-most : goal.overflow_mul-most
+overflow_mul-most c = omega (arith, product_small c.requires.0 c.requires.1 ((c.args.page_size - 4) / 4) (omega arith))
+
+-- src/chunk.rt:62:1
+pub returns : goal.returns
+returns c = numbers-part c.requires.0 c.requires.1 c.least-cell.ensures c.least-before.ensures c.least-count.ensures

@@ -1,0 +1,31 @@
+use Rattle.std.proofs.Common.{rules, ◌≡◌, ℕ, ◌+◌, ◌-◌, ◌*◌, ◌<◌, ◌≤◌, length, ◌/◌, ◌%◌, Bool, true, false, nat_eq, nat_lt, List, [], ◌∷◌, ◌++◌, slice_index_or, slice_set, bit_and, bit_or, Fits, w8, w32, w64, Bor, MutBor}
+use Rattle.refusal.specs.Effect.{effect}
+use Rattle.page.specs.PageSize.{IsPageSize, page_bytes}
+use Rattle.overflow.specs.Reading.{delete_into, deleted_outcome}
+use Rattle.overflow.specs.Steps.{Celled, delete_admitted}
+use Rattle.overflow.proofs.delete.delete.Goals as goal
+use mathlib.Core.Path.{refl, sym, ap, ◌∙◌}
+use Rattle.overflow.specs.Steps.{admitted_outcome}
+use Rattle.overflow.proofs.TotalsLaws.{is_page-size}
+use Rattle.overflow.proofs.AdmitLaws.{admission}
+use Rattle.overflow.proofs.ReadLaws.{delete_refused, delete_admitted_lem}
+
+-- src/delete.rt:29:11
+pub admit-requires : goal.admit-requires
+admit-requires c = is_page-size _ c.bytes-page_bytes.ensures
+
+-- src/delete.rt:31:35
+pub delete_pages-requires : goal.delete_pages-requires
+delete_pages-requires c = (is_page-size _ c.bytes-page_bytes.ensures, (admission _ _ _ _ (is_page-size _ c.bytes-page_bytes.ensures) c.in-Value.ensures).celled _ refl)
+
+-- src/delete.rt:24:1
+pub returns-in-Refused : goal.returns-in-Refused
+returns-in-Refused c =
+    rw (← c.bytes-page_bytes.ensures)
+    (delete_refused _ _ _ _ (ap admitted_outcome (sym c.in-Refused.is) ∙ rw c.max_overflow_value_size-largest.ensures at c.admit.ensures))
+
+-- src/delete.rt:24:1
+pub returns-in-Value : goal.returns-in-Value
+returns-in-Value c =
+    rw (← c.bytes-page_bytes.ensures)
+    (c.delete_pages.ensures ∙ delete_admitted_lem _ _ _ _ (rw c.max_overflow_value_size-largest.ensures at (admission _ _ _ _ (is_page-size _ c.bytes-page_bytes.ensures) c.in-Value.ensures)))

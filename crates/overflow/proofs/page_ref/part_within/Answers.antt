@@ -1,0 +1,15 @@
+use Rattle.std.proofs.Common.{rules, ◌≡◌, drop, ℕ, ◌+◌, ◌-◌, ◌*◌, ◌<◌, ◌≤◌, length, ◌/◌, ◌%◌, Bool, true, false, nat_eq, nat_lt, List, [], ◌∷◌, ◌++◌, slice_index_or, slice_set, bit_and, bit_or, Fits, w8, w32, w64, Bor, MutBor}
+use Rattle.overflow.specs.ValuePages.{numbers_within, bytes_within, number_within, value_bytes}
+use Rattle.overflow.proofs.page_ref.part_within.Goals as goal
+
+-- src/page_ref.rt:119:9
+pub returns-then-page-lt4 : goal.returns-then-page-lt4
+returns-then-page-lt4 c = ?
+
+-- src/page_ref.rt:124:9
+pub returns-then-page-end : goal.returns-then-page-end
+returns-then-page-end c = ?
+
+-- src/page_ref.rt:115:1
+pub returns : goal.returns
+returns c = ?

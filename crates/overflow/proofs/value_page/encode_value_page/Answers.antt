@@ -1,0 +1,22 @@
+use Rattle.std.proofs.Common.{rules, ◌≡◌, ◌≤◌, length, ℕ, ◌+◌, ◌-◌, ◌*◌, ◌<◌, ◌/◌, ◌%◌, Bool, true, false, nat_eq, nat_lt, List, [], ◌∷◌, ◌++◌, slice_index_or, slice_set, bit_and, bit_or, Fits, w8, w32, w64, Bor, MutBor}
+use Rattle.std.proofs.lemmas.List.Edits.{sets}
+use Rattle.page.specs.PageSize.{IsPageSize}
+use Rattle.overflow.specs.Layout.{part_of}
+use Rattle.overflow.specs.Steps.{EncodableValue}
+use Rattle.overflow.specs.ValuePages.{number_count, byte_count, encode_value_page}
+use Rattle.overflow.proofs.value_page.encode_value_page.Goals as goal
+use native.Mathlib.Omega.{arith}
+use lib.ListN.{drop, length-drop}
+use lib.Seq.{length-take-le}
+use Rattle.overflow.proofs.ValuePagesLaws.{encoded}
+
+-- src/value_page.rt:39:1
+pub returns : goal.returns
+returns c =
+    let x = c.args in
+    let numbers : length (part_of x.n x.numbers.now) ≡ x.n.count =
+    length-take-le x.n.count (drop x.n.from x.numbers.now) (omega (arith, c.requires.1.numbers_lent, length-drop x.n.from x.numbers.now)) in
+    let bytes : length (part_of x.v x.value.now) ≡ x.v.count =
+    length-take-le x.v.count (drop x.v.from x.value.now) (omega (arith, c.requires.1.bytes_lent, length-drop x.v.from x.value.now)) in
+    encoded x.page_size (part_of x.n x.numbers.now) (part_of x.v x.value.now) x.n.count x.v.count x.page.now _ _ _ _ _ numbers bytes
+    c.write_u16.ensures c.write_u16-2.ensures c.write_numbers.ensures c.copy_steps.ensures.1 c.clear_steps.ensures.1
