@@ -1,9 +1,4 @@
-use Rattle.std.proofs.Common.{rules, ◌≡◌, ℕ, ◌+◌, ◌-◌, ◌*◌, ◌<◌, ◌≤◌, length, ◌/◌, ◌%◌, Bool, true, false, nat_eq, nat_lt, List, [], ◌∷◌, ◌++◌, slice_index_or, slice_set, bit_and, bit_or, Fits, w8, w32, w64, Bor, MutBor}
-use Rattle.page.specs.PageSize.{IsPageSize}
-use Rattle.overflow.specs.Steps.{admitted_needs, admitted_outcome}
 use Rattle.overflow.proofs.admit.admit.Goals as goal
-use mathlib.Core.Path.{sym, ap, ◌∙◌}
-use Rattle.overflow.specs.Cells.{decoded_outcome}
 use Rattle.overflow.proofs.CellsLaws.{decoding}
 use Rattle.overflow.proofs.AdmitLaws.{admit_undecoded, decoded-few, admit-empty, admit-numbers, admit-bytes, admit-all}
 

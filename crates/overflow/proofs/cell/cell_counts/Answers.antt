@@ -1,9 +1,4 @@
-use Rattle.std.proofs.Common.{rules, ◌≡◌, ◌+◌, ◌≤◌, length, take, drop, ℕ, ◌-◌, ◌*◌, ◌<◌, ◌/◌, ◌%◌, Bool, true, false, nat_eq, nat_lt, List, [], ◌∷◌, ◌++◌, slice_index_or, slice_set, bit_and, bit_or, Fits, w8, w32, w64, Bor, MutBor}
-use Rattle.std.proofs.lemmas.List.Edits.{sets}
-use Rattle.refusal.specs.Effect.{effect}
-use Rattle.page.specs.PageSize.{page_bytes}
-use Rattle.overflow.specs.Stored.{written_outcome}
-use Rattle.overflow.specs.Cells.{cell_with, encode_cell_into, decoded_outcome, cell_counts, decode_cell_into}
+use Rattle.overflow.specs.Cells.{cell_counts}
 use Rattle.overflow.proofs.cell.cell_counts.Goals as goal
 use borrow.Author.Tests.{le-leb, lt-leb, eq-eqb, ne_eqb}
 use Rattle.page.proofs.BytesLaws.{length-numbers_at}

@@ -1,11 +1,4 @@
-use Rattle.std.proofs.Common.{rules, ◌≡◌, ◌≤◌, length, ℕ, ◌+◌, ◌-◌, ◌*◌, ◌<◌, ◌/◌, ◌%◌, Bool, true, false, nat_eq, nat_lt, List, [], ◌∷◌, ◌++◌, slice_index_or, slice_set, bit_and, bit_or, Fits, w8, w32, w64, Bor, MutBor}
-use Rattle.std.proofs.lemmas.List.Edits.{sets}
-use Rattle.refusal.specs.Effect.{before, effect}
-use Rattle.page.specs.PageSize.{IsPageSize, page_bytes}
-use Rattle.overflow.specs.Stored.{written_outcome}
-use Rattle.overflow.specs.Layout.{numbers_part, bytes_part}
-use Rattle.overflow.specs.Steps.{IsPageOf}
-use Rattle.overflow.specs.ValuePages.{value_page, chunk_into}
+use Rattle.std.proofs.Common.{◌-◌, ◌/◌}
 use Rattle.overflow.proofs.chunk.numbers_on.Goals as goal
 use native.Mathlib.Omega.{arith}
 use Rattle.page.proofs.PageSizeLaws.{page_least}

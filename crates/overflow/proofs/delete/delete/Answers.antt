@@ -1,8 +1,3 @@
-use Rattle.std.proofs.Common.{rules, ◌≡◌, ℕ, ◌+◌, ◌-◌, ◌*◌, ◌<◌, ◌≤◌, length, ◌/◌, ◌%◌, Bool, true, false, nat_eq, nat_lt, List, [], ◌∷◌, ◌++◌, slice_index_or, slice_set, bit_and, bit_or, Fits, w8, w32, w64, Bor, MutBor}
-use Rattle.refusal.specs.Effect.{effect}
-use Rattle.page.specs.PageSize.{IsPageSize, page_bytes}
-use Rattle.overflow.specs.Reading.{delete_into, deleted_outcome}
-use Rattle.overflow.specs.Steps.{Celled, delete_admitted}
 use Rattle.overflow.proofs.delete.delete.Goals as goal
 use mathlib.Core.Path.{refl, sym, ap, ◌∙◌}
 use Rattle.overflow.specs.Steps.{admitted_outcome}

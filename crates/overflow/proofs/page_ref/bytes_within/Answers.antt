@@ -1,11 +1,11 @@
-use Rattle.std.proofs.Common.{rules, ◌≡◌, drop, ℕ, ◌+◌, ◌-◌, ◌*◌, ◌<◌, ◌≤◌, length, ◌/◌, ◌%◌, Bool, true, false, nat_eq, nat_lt, List, [], ◌∷◌, ◌++◌, slice_index_or, slice_set, bit_and, bit_or, Fits, w8, w32, w64, Bor, MutBor}
-use Rattle.overflow.specs.ValuePages.{numbers_within, bytes_within, number_within, value_bytes}
 use Rattle.overflow.proofs.page_ref.bytes_within.Goals as goal
+use mathlib.Core.Path.{sym, ◌∙◌}
+use Rattle.overflow.proofs.WithinLaws.{byte_count_past, byte_count_within}
 
 -- src/page_ref.rt:98:9
 pub returns-then-page-lt4 : goal.returns-then-page-lt4
-returns-then-page-lt4 c = ?
+returns-then-page-lt4 c = sym (byte_count_past _ c.if-page-lt4.true)
 
 -- src/page_ref.rt:94:1
 pub returns : goal.returns
-returns c = ?
+returns c = c.byte_count.ensures ∙ sym (byte_count_within _ c.if-page-lt4.false)

@@ -1,11 +1,11 @@
-use Rattle.std.proofs.Common.{rules, ◌≡◌, drop, ℕ, ◌+◌, ◌-◌, ◌*◌, ◌<◌, ◌≤◌, length, ◌/◌, ◌%◌, Bool, true, false, nat_eq, nat_lt, List, [], ◌∷◌, ◌++◌, slice_index_or, slice_set, bit_and, bit_or, Fits, w8, w32, w64, Bor, MutBor}
-use Rattle.overflow.specs.ValuePages.{numbers_within, bytes_within, number_within, value_bytes}
 use Rattle.overflow.proofs.page_ref.numbers_within.Goals as goal
+use mathlib.Core.Path.{sym, ◌∙◌}
+use Rattle.overflow.proofs.WithinLaws.{number_count_past, number_count_within}
 
 -- src/page_ref.rt:89:9
 pub returns-then-page-lt4 : goal.returns-then-page-lt4
-returns-then-page-lt4 c = ?
+returns-then-page-lt4 c = sym (number_count_past _ c.if-page-lt4.true)
 
 -- src/page_ref.rt:85:1
 pub returns : goal.returns
-returns c = ?
+returns c = c.number_count.ensures ∙ sym (number_count_within _ c.if-page-lt4.false)

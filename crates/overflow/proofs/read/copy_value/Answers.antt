@@ -1,12 +1,6 @@
-use Rattle.std.proofs.Common.{rules, ◌≡◌, take, ℕ, ◌+◌, ◌-◌, ◌*◌, ◌<◌, ◌≤◌, length, ◌/◌, ◌%◌, Bool, true, false, nat_eq, nat_lt, List, [], ◌∷◌, ◌++◌, slice_index_or, slice_set, bit_and, bit_or, Fits, w8, w32, w64, Bor, MutBor}
-use Rattle.std.proofs.lemmas.List.Edits.{sets}
-use Rattle.refusal.specs.Effect.{before, after, effect}
-use Rattle.page.specs.PageSize.{IsPageSize, page_bytes}
-use Rattle.overflow.specs.Reading.{read_lent, read_value_into, read_outcome}
-use Rattle.overflow.specs.Steps.{WalkReadable, read_admitted, value_bytes_of, Copyable}
 use Rattle.overflow.proofs.read.copy_value.Goals as goal
 use native.Mathlib.Omega.{arith}
-use Rattle.overflow.proofs.CopyingLaws.{Copying, copying_start, copied, copying_done}
+use Rattle.overflow.proofs.CopyingLaws.{copying_start, copied, copying_done}
 
 -- src/read.rt:87:5
 pub loop-i-init : goal.loop-i-init

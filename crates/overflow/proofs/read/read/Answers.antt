@@ -1,12 +1,5 @@
-use Rattle.std.proofs.Common.{rules, ◌≡◌, take, ℕ, ◌+◌, ◌-◌, ◌*◌, ◌<◌, ◌≤◌, length, ◌/◌, ◌%◌, Bool, true, false, nat_eq, nat_lt, List, [], ◌∷◌, ◌++◌, slice_index_or, slice_set, bit_and, bit_or, Fits, w8, w32, w64, Bor, MutBor}
-use Rattle.std.proofs.lemmas.List.Edits.{sets}
-use Rattle.refusal.specs.Effect.{before, after, effect}
-use Rattle.page.specs.PageSize.{IsPageSize, page_bytes}
-use Rattle.overflow.specs.Reading.{read_lent, read_value_into, read_outcome}
-use Rattle.overflow.specs.Steps.{WalkReadable, read_admitted, value_bytes_of, Copyable}
 use Rattle.overflow.proofs.read.read.Goals as goal
-use mathlib.Core.Path.{refl, sym, ap, ◌∙◌}
-use Rattle.overflow.specs.Steps.{admitted_outcome}
+use mathlib.Core.Path.{refl, ◌∙◌}
 use Rattle.overflow.proofs.TotalsLaws.{is_page-size}
 use Rattle.overflow.proofs.AdmitLaws.{admission}
 use Rattle.overflow.proofs.ReadLaws.{read_refused, read_admitted_lem}

@@ -1,9 +1,3 @@
-use Rattle.std.proofs.Common.{rules, ◌≡◌, take, ℕ, ◌+◌, ◌-◌, ◌*◌, ◌<◌, ◌≤◌, length, ◌/◌, ◌%◌, Bool, true, false, nat_eq, nat_lt, List, [], ◌∷◌, ◌++◌, slice_index_or, slice_set, bit_and, bit_or, Fits, w8, w32, w64, Bor, MutBor}
-use Rattle.std.proofs.lemmas.List.Edits.{sets}
-use Rattle.refusal.specs.Effect.{before, after, effect}
-use Rattle.page.specs.PageSize.{IsPageSize, page_bytes}
-use Rattle.overflow.specs.Reading.{read_lent, read_value_into, read_outcome}
-use Rattle.overflow.specs.Steps.{WalkReadable, read_admitted, value_bytes_of, Copyable}
 use Rattle.overflow.proofs.read.read_pages.Goals as goal
 use Rattle.overflow.proofs.ReadLaws.{walk_ended, read-stopped, read-numbers, read-bytes, copyable, read_all}
 

@@ -1,6 +1,6 @@
-use Rattle.std.proofs.Common.{rules, ◌≡◌, ◌≤◌, ℕ, ◌+◌, ◌-◌, ◌*◌, ◌<◌, length, ◌/◌, ◌%◌, Bool, true, false, nat_eq, nat_lt, List, [], ◌∷◌, ◌++◌, slice_index_or, slice_set, bit_and, bit_or, Fits, w8, w32, w64, Bor, MutBor}
-use Rattle.page.specs.PageSize.{IsPageSize, page_bytes}
-use Rattle.overflow.specs.Totals.{max_size, raw_pages, total_pages, spare_room, page_total, total_outcome}
+use Rattle.std.proofs.Common.{◌≡◌, ◌≤◌, ℕ, ◌+◌, ◌-◌, ◌*◌, ◌<◌}
+use Rattle.page.specs.PageSize.{IsPageSize}
+use Rattle.overflow.specs.Totals.{max_size, total_pages, spare_room}
 use Rattle.overflow.proofs.total.spare_room.Goals as goal
 use Prim.Native.Nat.{◌^◌}
 use native.Mathlib.Omega.{arith}
@@ -13,7 +13,6 @@ room : {s size total : ℕ} → IsPageSize s × (size ≤ max_size s) × (total 
 room {s} {size} (page, few, e) =
     rw e
     (total_enough size page, omega (arith, total_tight size page, total_small size page, page.limit, max_size_lem s))
-
 
 -- src/total.rt:79:17
 pub overflow_sub-left : goal.overflow_sub-left
@@ -30,7 +29,8 @@ overflow_sub-left-2 c = omega (arith, room c.requires)
 -- src/total.rt:81:9
 pub returns-then-total-le-MAX_OVERFLOW_CELL_NODE_POINTERS :
     goal.returns-then-total-le-MAX_OVERFLOW_CELL_NODE_POINTERS
-returns-then-total-le-MAX_OVERFLOW_CELL_NODE_POINTERS c = ?
+unfolding spare_room
+returns-then-total-le-MAX_OVERFLOW_CELL_NODE_POINTERS c = rw (le-ltb _ _ c.if-total-le-MAX_OVERFLOW_CELL_NODE_POINTERS.true)
 
 -- src/total.rt:83:12
 pub overflow_mul-result : goal.overflow_mul-result

@@ -1,15 +1,23 @@
-use Rattle.std.proofs.Common.{rules, ◌≡◌, ◌≤◌, ℕ, ◌+◌, ◌-◌, ◌*◌, ◌<◌, length, ◌/◌, ◌%◌, Bool, true, false, nat_eq, nat_lt, List, [], ◌∷◌, ◌++◌, slice_index_or, slice_set, bit_and, bit_or, Fits, w8, w32, w64, Bor, MutBor}
-use Rattle.page.specs.PageSize.{IsPageSize, page_bytes}
-use Rattle.overflow.specs.Totals.{max_size, raw_pages, total_pages, spare_room, page_total, total_outcome}
+use Rattle.std.proofs.Common.{◌≡◌, ◌≤◌, ℕ, ◌+◌, ◌*◌, ◌<◌}
+use Rattle.page.specs.PageSize.{IsPageSize}
+use Rattle.overflow.specs.Totals.{max_size, raw_pages, total_pages}
 use Rattle.overflow.proofs.total.total_needed_pages.Goals as goal
 use Prim.Native.Nat.{◌^◌}
 use mathlib.Core.Path.{subst⁻¹}
-use native.Mathlib.Nat.{mul-le-mul_right, div-le_self}
+use native.Mathlib.Nat.{mul-le-mul_right}
 use native.Mathlib.Omega.{arith}
 use borrow.Author.Tests.{le-leb, lt-leb}
 use Rattle.page.proofs.PageSizeLaws.{page_least}
 use Rattle.overflow.specs.Totals.{body}
 use Rattle.overflow.proofs.TotalsLaws.{max_size_lem, raw_covers, raw_tight}
+
+-- what is known of the raw pages
+record Raw (s size raw : ℕ) : Type 0 where
+  large : 16 ≤ s
+  covers : size ≤ body s * raw
+  tight : body s * raw < size + body s
+  few : raw ≤ body s * raw
+  small : size ≤ 2 ^ 29
 
 raw-facts : {s size raw : ℕ} → IsPageSize s → size ≤ max_size s → raw ≡ raw_pages s size → Raw s size raw
 raw-facts {s} {size} {raw} page limit e =
@@ -17,11 +25,11 @@ raw-facts {s} {size} {raw} page limit e =
     subst⁻¹ (λ (r : ℕ). Raw s size r) e
     (record { large = page_least page; covers = raw_covers size page; tight = raw_tight size page; few = omega (arith, mul-le-mul_right (raw_pages s size) one); small = omega (arith, max_size_lem s) })
 
-
 -- src/total.rt:62:9
 pub returns-then-raw-le-MAX_OVERFLOW_CELL_NODE_POINTERS :
     goal.returns-then-raw-le-MAX_OVERFLOW_CELL_NODE_POINTERS
-returns-then-raw-le-MAX_OVERFLOW_CELL_NODE_POINTERS c = ?
+unfolding total_pages
+returns-then-raw-le-MAX_OVERFLOW_CELL_NODE_POINTERS c = rw (← c.needed_pages-raw.ensures, le-leb _ _ c.if-raw-le-MAX_OVERFLOW_CELL_NODE_POINTERS.true)
 
 -- src/total.rt:64:16
 pub overflow_sub-body : goal.overflow_sub-body

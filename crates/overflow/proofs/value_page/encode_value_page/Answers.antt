@@ -1,9 +1,5 @@
-use Rattle.std.proofs.Common.{rules, ◌≡◌, ◌≤◌, length, ℕ, ◌+◌, ◌-◌, ◌*◌, ◌<◌, ◌/◌, ◌%◌, Bool, true, false, nat_eq, nat_lt, List, [], ◌∷◌, ◌++◌, slice_index_or, slice_set, bit_and, bit_or, Fits, w8, w32, w64, Bor, MutBor}
-use Rattle.std.proofs.lemmas.List.Edits.{sets}
-use Rattle.page.specs.PageSize.{IsPageSize}
+use Rattle.std.proofs.Common.{◌≡◌, length}
 use Rattle.overflow.specs.Layout.{part_of}
-use Rattle.overflow.specs.Steps.{EncodableValue}
-use Rattle.overflow.specs.ValuePages.{number_count, byte_count, encode_value_page}
 use Rattle.overflow.proofs.value_page.encode_value_page.Goals as goal
 use native.Mathlib.Omega.{arith}
 use lib.ListN.{drop, length-drop}

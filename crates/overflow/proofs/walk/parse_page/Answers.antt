@@ -1,12 +1,8 @@
-use Rattle.std.proofs.Common.{rules, ◌≡◌, ◌+◌, ◌*◌, ◌-◌, ◌<◌, ◌≤◌, length, take, ℕ, ◌/◌, ◌%◌, Bool, true, false, nat_eq, nat_lt, List, [], ◌∷◌, ◌++◌, slice_index_or, slice_set, bit_and, bit_or, Fits, w8, w32, w64, Bor, MutBor}
-use Rattle.std.proofs.lemmas.List.Edits.{sets}
-use Rattle.refusal.specs.Effect.{effect}
-use Rattle.page.specs.Bytes.{numbers_at}
+use Rattle.std.proofs.Common.{◌≡◌, ◌+◌, ◌*◌, ◌<◌, ◌≤◌, length, ℕ, List, [], ◌∷◌}
 use Rattle.page.specs.PageSize.{IsPageSize}
 use Rattle.page.specs.Pages.{page_count}
-use Rattle.overflow.specs.Cells.{cell_header}
 use Rattle.overflow.specs.Reading.{in_store}
-use Rattle.overflow.specs.Steps.{parse_header, parsed_outcome, visit_into, left_after, Walkable, max_known, walk_table, start_counts, walk_into, walk_outcome}
+use Rattle.overflow.specs.Steps.{parse_header}
 use Rattle.overflow.proofs.walk.parse_page.Goals as goal
 use mathlib.Core.Path.{sym, ◌∙◌, ap}
 use native.Mathlib.Omega.{arith}
@@ -21,6 +17,29 @@ use Rattle.overflow.specs.Steps.{header_of}
 use Rattle.overflow.specs.declared.page_ref.ValuePageHeader.{ValuePageHeader}
 use Rattle.overflow.proofs.WithinLaws.{number_count_within, byte_count_within}
 use Rattle.overflow.proofs.WalkLaws.{page_long, store_page}
+
+-- a page of the store, by its header
+module _ {s : ℕ} (size : IsPageSize s) (store : List ℕ) (i p : ℕ) (inside : p < page_count s store) {b : List ℕ} (page : b ≡ page_at s store p) {h : ValuePageHeader}
+    (numbers : h.numbers ≡ numbers_within b) (bytes : h.bytes ≡ bytes_within b) where
+  reaches : 4 ≤ length b
+  reaches = omega (arith, ap length page, page_long s store p size inside, page_least size)
+
+  header_is : header_of (page_at s store p) ≡ h
+  header_is =
+      let n : number_count (page_at s store p) ≡ h.numbers = ap number_count (sym page) ∙ sym (numbers ∙ number_count_within b reaches) in
+      let m : byte_count (page_at s store p) ≡ h.bytes = ap byte_count (sym page) ∙ sym (bytes ∙ byte_count_within b reaches) in
+      λ j. record { numbers = n j; bytes = m j }
+
+  counts-are : 4 * number_count (page_at s store p) + byte_count (page_at s store p) ≡ 4 * h.numbers + h.bytes
+  counts-are = ap (λ (h : ValuePageHeader). 4 * h.numbers + h.bytes) header_is
+
+  unfit : body s < 4 * h.numbers + h.bytes → refused 16 (i ∷ []) ≡ parse_header s (in_store s store) i p
+  unfolding parse_header parse_page
+  unfit many = rw (store_page s store i p inside, counts-are, lt-leb _ (body s) many)
+
+  fit : 4 * h.numbers + h.bytes ≤ body s → answer h ≡ parse_header s (in_store s store) i p
+  unfolding parse_header parse_page
+  fit few = rw (store_page s store i p inside, counts-are, le-leb _ (body s) few, header_is)
 
 -- src/walk.rt:123:9
 pub returns-then-count-page : goal.returns-then-count-page

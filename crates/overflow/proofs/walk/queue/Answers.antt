@@ -1,12 +1,5 @@
-use Rattle.std.proofs.Common.{rules, ◌≡◌, ◌+◌, ◌*◌, ◌-◌, ◌<◌, ◌≤◌, length, take, ℕ, ◌/◌, ◌%◌, Bool, true, false, nat_eq, nat_lt, List, [], ◌∷◌, ◌++◌, slice_index_or, slice_set, bit_and, bit_or, Fits, w8, w32, w64, Bor, MutBor}
-use Rattle.std.proofs.lemmas.List.Edits.{sets}
-use Rattle.refusal.specs.Effect.{effect}
+use Rattle.std.proofs.Common.{◌≡◌, ◌-◌, ◌<◌, take, ℕ, List}
 use Rattle.page.specs.Bytes.{numbers_at}
-use Rattle.page.specs.PageSize.{IsPageSize}
-use Rattle.page.specs.Pages.{page_count}
-use Rattle.overflow.specs.Cells.{cell_header}
-use Rattle.overflow.specs.Reading.{in_store}
-use Rattle.overflow.specs.Steps.{parse_header, parsed_outcome, visit_into, left_after, Walkable, max_known, walk_table, start_counts, walk_into, walk_outcome}
 use Rattle.overflow.proofs.walk.queue.Goals as goal
 use Prim.Native.Nat.{min}
 use native.Mathlib.Decide.{dec_lt}
@@ -16,7 +9,7 @@ use Rattle.page.proofs.BytesLaws.{take-numbers_at, length-numbers_at}
 
 first-numbers : (b : List ℕ) (at n room : ℕ) → take room (numbers_at 4 b at n) ≡ numbers_at 4 b at (min n room)
 first-numbers b at n room =
- by_count (dec_lt room n)
+    by_count (dec_lt room n)
   where
     by_count : Dec (room < n) → take room (numbers_at 4 b at n) ≡ numbers_at 4 b at (min n room)
     by_count (yes h) =
@@ -25,7 +18,6 @@ first-numbers b at n room =
     by_count (no h) =
         let least : min n room ≡ n = omega arith in
         rw least (take_all room (numbers_at 4 b at n) (omega (arith, length-numbers_at 4 b at n)))
-
 
 -- src/walk.rt:145:1
 pub returns : goal.returns

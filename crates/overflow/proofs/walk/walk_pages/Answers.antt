@@ -1,16 +1,7 @@
-use Rattle.std.proofs.Common.{rules, ◌≡◌, ◌+◌, ◌*◌, ◌-◌, ◌<◌, ◌≤◌, length, take, ℕ, ◌/◌, ◌%◌, Bool, true, false, nat_eq, nat_lt, List, [], ◌∷◌, ◌++◌, slice_index_or, slice_set, bit_and, bit_or, Fits, w8, w32, w64, Bor, MutBor}
-use Rattle.std.proofs.lemmas.List.Edits.{sets}
-use Rattle.refusal.specs.Effect.{effect}
-use Rattle.page.specs.Bytes.{numbers_at}
-use Rattle.page.specs.PageSize.{IsPageSize}
-use Rattle.page.specs.Pages.{page_count}
-use Rattle.overflow.specs.Cells.{cell_header}
-use Rattle.overflow.specs.Reading.{in_store}
-use Rattle.overflow.specs.Steps.{parse_header, parsed_outcome, visit_into, left_after, Walkable, max_known, walk_table, start_counts, walk_into, walk_outcome}
 use Rattle.overflow.proofs.walk.walk_pages.Goals as goal
 use native.Mathlib.Omega.{arith}
 use Rattle.overflow.proofs.TotalsLaws.{max_size_lem}
-use Rattle.overflow.proofs.TableLaws.{Walking, walking_start, walking_done, walking-stopped, left_less, walking-next}
+use Rattle.overflow.proofs.TableLaws.{walking_start, walking_done, walking-stopped, left_less, walking-next}
 
 -- src/walk.rt:74:5
 pub loop-left-init : goal.loop-left-init
@@ -22,7 +13,7 @@ visit_page-requires c = (c.requires.0, c.page_count-count.ensures, omega (arith,
 
 -- src/walk.rt:77:17
 pub returns-in-Unfit : goal.returns-in-Unfit
-returns-in-Unfit c = walking-stopped c.loop-left.invariant c.loop-left-test.true (rw c.in-Unfit.is at c.visit_page.ensures)
+returns-in-Unfit c = walking-stopped c.loop-left.invariant c.loop-left-test.true (c.in-Unfit.ensures)
 
 -- src/walk.rt:80:17
 pub overflow_add-numbers : goal.overflow_add-numbers
@@ -34,11 +25,11 @@ overflow_add-bytes c = omega (arith, c.loop-left.invariant.bytes_few, c.loop-lef
 
 -- src/walk.rt:74:5
 pub loop-left-smaller : goal.loop-left-smaller
-loop-left-smaller c = left_less _ _ c.loop-left-test.true c.left_After.ensures
+loop-left-smaller c = left_less _ _ c.loop-left-test.true c.left_after-left.ensures
 
 -- src/walk.rt:74:5
 pub loop-left-preserved : goal.loop-left-preserved
-loop-left-preserved c = walking-next c.loop-left.invariant c.loop-left-test.true (rw c.in-Page.is at c.visit_page.ensures) (omega arith) (omega arith) (omega arith) c.left_After.ensures
+loop-left-preserved c = walking-next c.loop-left.invariant c.loop-left-test.true (c.in-Page.ensures) (omega arith) (omega arith) (omega arith) c.left_after-left.ensures
 
 -- src/walk.rt:58:1
 pub returns : goal.returns
