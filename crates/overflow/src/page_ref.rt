@@ -1,8 +1,7 @@
 // A value page that is held: a struct with the lent bytes, whose methods read what stands on them.
 //
 // Nothing is asked of the bytes. A page shorter than its header has no numbers and no value bytes, a number that the page ends before
-// is nil, and the value bytes are those that the page has. The functions over the struct are proved by hand; other callers take
-// `header`, `number` and `bytes`, whose parameters are plain.
+// is nil, and the value bytes are those that the page has. Callers take `header`, `number` and `bytes`, whose parameters are plain.
 ghost use Rattle.std.specs.Prelude.{◌≡◌, drop};
 ghost use Rattle.overflow.specs.ValuePages.{numbers_within, bytes_within, number_within, value_bytes};
 
@@ -82,6 +81,7 @@ pub fn bytes(page: &[u8]) -> &[u8]
 
 // What the methods call.
 
+#[tactic(auto, using(crate::proofs::WithinLaws::number_count_past, crate::proofs::WithinLaws::number_count_within))]
 fn numbers_within(page: &[u8]) -> u16
     ensures { result ≡ numbers_within page.now }
 {
@@ -91,6 +91,7 @@ fn numbers_within(page: &[u8]) -> u16
     number_count(page)
 }
 
+#[tactic(auto, using(crate::proofs::WithinLaws::byte_count_past, crate::proofs::WithinLaws::byte_count_within))]
 fn bytes_within(page: &[u8]) -> u16
     ensures { result ≡ bytes_within page.now }
 {
@@ -100,6 +101,7 @@ fn bytes_within(page: &[u8]) -> u16
     byte_count(page)
 }
 
+#[tactic(auto, using(crate::proofs::WithinLaws::number_past, crate::proofs::WithinLaws::number_within_lem))]
 fn number_within(page: &[u8], i: usize) -> PageNumber
     ensures { result.0 ≡ number_within page.now i }
 {
@@ -112,6 +114,7 @@ fn number_within(page: &[u8], i: usize) -> PageNumber
     PageNumber(read_u32(page, 4 + 4 * i))
 }
 
+#[tactic(auto, using(crate::proofs::WithinLaws::bytes_none, crate::proofs::WithinLaws::bytes_cut, crate::proofs::WithinLaws::bytes_whole))]
 fn part_within(page: &[u8]) -> &[u8]
     ensures { result.now ≡ value_bytes page.now }
 {
