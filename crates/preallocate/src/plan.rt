@@ -21,6 +21,7 @@ fn pages_after(c: usize, pages: &[u32], entries: &[u32], popped: usize) -> usize
 }
 
 // Whether the list of so many pages and entries is fragmented.
+#[tactic(auto, unfolding(free_list::specs::Shape::is_fragmented))]
 pub fn is_fragmented(c: usize, pages: usize, entries: usize) -> bool
     requires { c * (pages - 1) < 2 ^ 64 }
     ensures { result ≡ is_fragmented c pages entries }

@@ -1,8 +1,7 @@
 -- `pages_after`: the test says which case of `pages_after` holds.
-use Rattle.preallocate.specs.Plan.{pages_after}
+use Rattle.preallocate.specs.Plan.{pages_for, pages_after}
 use Rattle.preallocate.proofs.plan.pages_after.Goals as goal
 use borrow.Author.Tests.{eq-eqb, ne_eqb}
-use Rattle.preallocate.specs.Plan.{pages_for}
 
 pub returns-then-popped-eq0 : goal.returns-then-popped-eq0
 unfolding pages_after
