@@ -1,0 +1,45 @@
+use Rattle.std.proofs.Common.{rules, ◌≡◌, ℕ, ◌+◌, ◌-◌, ◌*◌, ◌<◌, ◌≤◌, length, ◌/◌, ◌%◌, Bool, true, false, nat_eq, nat_lt, List, [], ◌∷◌, ◌++◌, slice_index_or, slice_set, bit_and, bit_or, Fits, w8, w32, w64, Bor, MutBor}
+use Rattle.std.proofs.lemmas.List.Edits.{sets}
+use Rattle.refusal.specs.Effect.{before, after}
+use Rattle.free_list.specs.Reading.{tables}
+use Rattle.finisher.specs.Finish.{finish_lent}
+use Rattle.finisher.specs.Answers.{save_with}
+use Rattle.finisher.specs.Steps.{Goes, Doable, Numberable, Filled, plan_for, numbers_for, new_tables, carried}
+use Rattle.finisher.proofs.carry.carry_out.Goals as goal
+use native.Mathlib.Omega.{arith}
+use Rattle.finisher.proofs.CarryLaws.{bytes_enough, numbers_enough, goes_doable, goes_same, numbers_filled, numbers_carried, encodable, buffer-carried}
+
+-- some page is written
+doable : (c : goal.Else-work-eq0) → let a = (start c).args in Doable a.page_size (save_with a.save a.pages.now a.entries.now) a.freed.now a.work
+doable c = goes_doable (start c).requires c.if-work-eq0.false
+
+
+-- src/carry.rt:32:9
+pub returns-then-work-eq0 : goal.returns-then-work-eq0
+returns-then-work-eq0 c = goes_same c.requires c.if-work-eq0.true
+
+-- src/carry.rt:34:5
+pub fill_numbers-requires : goal.fill_numbers-requires
+fill_numbers-requires c = record { doable = doable c; numbers_fit = numbers_enough (start c).requires }
+
+-- src/carry.rt:35:5
+pub write_tables-requires : goal.write_tables-requires
+write_tables-requires c =
+    let s = start c in
+    let enough = numbers_enough s.pre in
+    record {
+      fillable = record { doable = doable c; numbers_fit = omega (arith, enough, c.fill_numbers.auto) };
+      numbers_are = numbers_filled (doable c) s.args.numbers.now enough c.fill_numbers.ensures;
+    }
+
+-- src/carry.rt:37:5
+pub encode_pages-requires : goal.encode_pages-requires
+encode_pages-requires c = encodable (doable c) c.write_tables.ensures c.one_less-first.ensures (bytes_enough (start c).requires)
+
+-- src/carry.rt:18:1
+pub returns : goal.returns
+returns c =
+    let a = (start c).args in
+    let buffer = buffer-carried (doable c) c.write_tables.ensures c.one_less-first.ensures a.buffer.now c.encode_pages.ensures in
+    let numbers = numbers_carried (doable c) a.numbers.now c.fill_numbers.ensures in
+    λ i. record { tables = c.write_tables.ensures i; room = record { buffer = buffer i; numbers = numbers i } }

@@ -1,0 +1,58 @@
+use Rattle.std.proofs.Common.{rules, ◌≡◌, ℕ, ◌+◌, ◌-◌, ◌*◌, ◌<◌, ◌≤◌, length, ◌/◌, ◌%◌, Bool, true, false, nat_eq, nat_lt, List, [], ◌∷◌, ◌++◌, slice_index_or, slice_set, bit_and, bit_or, Fits, w8, w32, w64, Bor, MutBor}
+use Rattle.std.proofs.lemmas.List.Edits.{sets}
+use Rattle.refusal.specs.Effect.{before, after}
+use Rattle.free_list.specs.Reading.{tables}
+use Rattle.finisher.specs.Finish.{finish_lent}
+use Rattle.finisher.specs.Answers.{save_with}
+use Rattle.finisher.specs.Steps.{Goes, Doable, Numberable, Filled, plan_for, numbers_for, new_tables, carried}
+use Rattle.finisher.proofs.carry.fill_numbers.Goals as goal
+use Prim.Native.Nat.{suc}
+use mathlib.Core.Path.{ap, sym, ◌∙◌}
+use native.Mathlib.Omega.{arith}
+use borrow.Rule.Slice.PartMut.{put_mid}
+use lib.ListN.{take, drop, set, length-set}
+use Rattle.laws.proofs.SetsLaws.{part-sets}
+use Rattle.preallocate.specs.Plan.{Plan}
+use Rattle.preallocate.specs.declared.turns.Plan.{Plan as Counts}
+use Rattle.finisher.proofs.CarryLaws.{plan_is, written_are, written_some, numbers_count}
+use Rattle.finisher.proofs.NewListLaws.{numbers_none, numbers_some}
+
+-- a first number, and others written to the part behind it
+behind : (l : List ℕ) (x : ℕ) (m vs : List ℕ) → suc (length vs) ≤ length l → m ≡ sets (take (length (set l 0 x) - 1) (drop 1 (set l 0 x))) 0 vs
+    → put_mid 1 (length (set l 0 x) - 1) (set l 0 x) m ≡ sets l 0 (x ∷ vs)
+behind l x m vs h e = ap (put_mid 1 (length (set l 0 x) - 1) (set l 0 x)) e ∙ part-sets (set l 0 x) 1 (length (set l 0 x) - 1) vs (omega (arith, length-set l 0 x)) (omega (arith, length-set l 0 x))
+
+
+kept-is : (c : goal.Start) → c.args.work.plan.pages ≡ (plan c).kept
+kept-is c = ap (λ (p : Counts). p.pages) (plan_is c.requires.doable)
+
+
+place : (c : goal.Start) → 1 ≤ length c.args.numbers.now
+place c = omega (arith, c.requires.numbers_fit, written_are c.requires.doable, written_some c.requires.doable.save)
+
+
+-- src/carry.rt:63:9
+pub returns-then-work-eq0 : goal.returns-then-work-eq0
+returns-then-work-eq0 c = c.new_pages_lem.ensures ∙ ap (sets c.args.numbers.now 0) (sym (numbers_none (plan c) (sym (kept-is c) ∙ c.if-work-eq0.true)))
+
+-- src/carry.rt:65:5
+pub bounds-numbers-0 : goal.bounds-numbers-0
+bounds-numbers-0 c = place c
+
+-- src/carry.rt:73:9
+pub slice_bounds-new_pages-count : goal.slice_bounds-new_pages-count
+slice_bounds-new_pages-count c = simp length-set (place c)
+
+-- src/carry.rt:73:9
+pub slice_bounds-new_pages-start : goal.slice_bounds-new_pages-start
+slice_bounds-new_pages-start c = simp length-set (place c)
+
+-- src/carry.rt:49:1
+pub returns : goal.returns
+returns c =
+    let t = plan c in
+    let some : t.kept ≡ 0 → ⊥ = λ z. c.if-work-eq0.false (kept-is c ∙ z) in
+    let room : suc (length t.fresh) ≤ length c.args.numbers.now =
+    omega (arith, c.requires.numbers_fit, written_are c.requires.doable, numbers_count c.requires.doable.save, ap length (numbers_some t some)) in
+    behind c.args.numbers.now c.args.work.plan.top _ t.fresh room c.new_pages-2.ensures
+    ∙ ap (sets c.args.numbers.now 0) (ap (λ (x : ℕ). x ∷ t.fresh) (ap (λ (p : Counts). p.top) (plan_is c.requires.doable)) ∙ sym (numbers_some t some))

@@ -1,0 +1,45 @@
+use Rattle.std.proofs.Common.{rules, ◌≡◌, reverse, ◌+◌, ◌-◌, ◌<◌, ◌≤◌, length, get_or, set, take, drop, ℕ, ◌*◌, ◌/◌, ◌%◌, Bool, true, false, nat_eq, nat_lt, List, [], ◌∷◌, ◌++◌, bit_and, bit_or, Fits, w8, w32, w64, Bor, MutBor}
+use Rattle.std.proofs.lemmas.List.Edits.{sets}
+use Rattle.finisher.specs.Finish.{first_bad}
+use Rattle.finisher.specs.Steps.{push_list, Pushable}
+use Rattle.finisher.proofs.tables.push_pages.Goals as goal
+use mathlib.Core.Path.{refl, ap, ◌∙◌}
+use native.Mathlib.Omega.{arith}
+use lib.ListN.{length-set}
+use Rattle.finisher.proofs.TablesLaws.{push_none, push_more}
+
+-- src/tables.rt:44:5
+pub loop-page-init : goal.loop-page-init
+loop-page-init c = (c.requires.0, omega arith, refl, refl, push_none c.args.table.now c.args.pages.now c.args.count c.args.at)
+
+-- src/tables.rt:46:20
+pub offset_bounds-pages-page : goal.offset_bounds-pages-page
+offset_bounds-pages-page c = omega arith
+
+-- src/tables.rt:46:20
+pub bounds-pages-page : goal.bounds-pages-page
+bounds-pages-page c = omega (arith, c.requires)
+
+-- src/tables.rt:46:9
+pub offset_bounds-table-i : goal.offset_bounds-table-i
+offset_bounds-table-i c = omega (arith, c.requires)
+
+-- src/tables.rt:46:9
+pub bounds-table-i : goal.bounds-table-i
+bounds-table-i c = omega (arith, c.requires)
+
+-- src/tables.rt:47:9
+pub overflow_add-i : goal.overflow_add-i
+overflow_add-i c = omega (arith, c.requires)
+
+-- src/tables.rt:44:5
+pub loop-page-preserved : goal.loop-page-preserved
+loop-page-preserved c =
+    let some : 0 < c.loop-page.page = omega arith in
+    (omega arith, omega arith, omega arith, simp length-set c.loop-page.invariant.3, push_more _ _ _ _ _ _ _ some c.loop-page.invariant.1 c.requires.1 c.loop-page.invariant.2 c.loop-page.invariant.4)
+
+-- src/tables.rt:38:1
+pub returns : goal.returns
+returns c =
+    let e : c.loop-page.page ≡ c.args.low = omega arith in
+    c.loop-page.invariant.4 ∙ ap (λ k. sets c.args.table.now c.args.at (reverse (drop k (take c.args.count c.args.pages.now)))) e

@@ -1,0 +1,21 @@
+use Rattle.std.proofs.Common.{rules, ◌≡◌, reverse, ◌+◌, ◌-◌, ◌<◌, ◌≤◌, length, get_or, set, take, drop, ℕ, ◌*◌, ◌/◌, ◌%◌, Bool, true, false, nat_eq, nat_lt, List, [], ◌∷◌, ◌++◌, bit_and, bit_or, Fits, w8, w32, w64, Bor, MutBor}
+use Rattle.std.proofs.lemmas.List.Edits.{sets}
+use Rattle.finisher.specs.Finish.{first_bad}
+use Rattle.finisher.specs.Steps.{push_list, Pushable}
+use Rattle.finisher.proofs.tables.write_pushes.Goals as goal
+use native.Mathlib.Omega.{arith}
+use lib.Seq.{length-take-le}
+use Rattle.finisher.proofs.TablesLaws.{pushes_ordinary, pushes_mended}
+
+-- src/tables.rt:52:1
+pub returns-then-mended : goal.returns-then-mended
+returns-then-mended c =
+    let a = c.args in
+    let two = c.requires.two c.if-mended.true in
+    let long : length (take a.count a.pages.now) ≡ a.count = length-take-le a.count a.pages.now c.requires.pages_fit in
+    rw c.if-mended.true
+    (pushes_mended _ _ _ _ _ _ _ c.copy_numbers.ensures c.push_pages.ensures _ (omega arith) (omega (arith, c.requires.entries_fit)) c.swap.ensures)
+
+-- src/tables.rt:52:1
+pub returns-else-mended : goal.returns-else-mended
+returns-else-mended c = rw c.if-mended.false (pushes_ordinary _ _ _ _ _ _ _ c.copy_numbers.ensures c.push_pages.ensures)
