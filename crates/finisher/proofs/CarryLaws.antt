@@ -211,7 +211,7 @@ module _ {s : ℕ} {v : Save} {freed : List ℕ} {work : Work} (h : Doable s v f
       → Makes (plan_of (capacity s) (list_of v) work.popped freed work.bump) before r after → after ≡ sets before 0 (plan_for s v freed).fresh
   named_again fits {before} m = (rw (pops_are, bump_is) at m).named ∙ ap (sets before 0) (all_kept_lem (plan_for s v freed).fresh (fresh-fits fits))
 
-  kept-is : work.plan.pages ≡ (plan_for s v freed).kept
+  pub kept-is : work.plan.pages ≡ (plan_for s v freed).kept
   kept-is = ap (λ (p : Counts). p.pages) plan_is
 
   left_is : work.plan.entries ≡ (plan_for s v freed).left

@@ -9,37 +9,30 @@ use Rattle.finisher.proofs.carry.carry_out.Goals as goal
 use native.Mathlib.Omega.{arith}
 use Rattle.finisher.proofs.CarryLaws.{bytes_enough, numbers_enough, goes_doable, goes_same, numbers_filled, numbers_carried, encodable, buffer-carried}
 
--- some page is written
-doable : (c : goal.Else-work-eq0) → let a = (start c).args in Doable a.page_size (save_with a.save a.pages.now a.entries.now) a.freed.now a.work
-doable c = goes_doable (start c).requires c.if-work-eq0.false
-
-
 -- src/carry.rt:32:9
 pub returns-then-work-eq0 : goal.returns-then-work-eq0
 returns-then-work-eq0 c = goes_same c.requires c.if-work-eq0.true
 
 -- src/carry.rt:34:5
 pub fill_numbers-requires : goal.fill_numbers-requires
-fill_numbers-requires c = record { doable = doable c; numbers_fit = numbers_enough (start c).requires }
+fill_numbers-requires c = record { doable = goes_doable c.requires c.if-work-eq0.false; numbers_fit = numbers_enough c.requires }
 
 -- src/carry.rt:35:5
 pub write_tables-requires : goal.write_tables-requires
 write_tables-requires c =
-    let s = start c in
-    let enough = numbers_enough s.pre in
+    let enough = numbers_enough c.requires in
     record {
-      fillable = record { doable = doable c; numbers_fit = omega (arith, enough, c.fill_numbers.auto) };
-      numbers_are = numbers_filled (doable c) s.args.numbers.now enough c.fill_numbers.ensures;
+      fillable = record { doable = goes_doable c.requires c.if-work-eq0.false; numbers_fit = omega (arith, enough, c.fill_numbers.auto) };
+      numbers_are = numbers_filled (goes_doable c.requires c.if-work-eq0.false) c.args.numbers.now enough c.fill_numbers.ensures;
     }
 
 -- src/carry.rt:37:5
 pub encode_pages-requires : goal.encode_pages-requires
-encode_pages-requires c = encodable (doable c) c.write_tables.ensures c.one_less-first.ensures (bytes_enough (start c).requires)
+encode_pages-requires c = encodable (goes_doable c.requires c.if-work-eq0.false) c.write_tables.ensures c.one_less-first.ensures (bytes_enough c.requires)
 
 -- src/carry.rt:18:1
 pub returns : goal.returns
 returns c =
-    let a = (start c).args in
-    let buffer = buffer-carried (doable c) c.write_tables.ensures c.one_less-first.ensures a.buffer.now c.encode_pages.ensures in
-    let numbers = numbers_carried (doable c) a.numbers.now c.fill_numbers.ensures in
+    let buffer = buffer-carried (goes_doable c.requires c.if-work-eq0.false) c.write_tables.ensures c.one_less-first.ensures c.args.buffer.now c.encode_pages.ensures in
+    let numbers = numbers_carried (goes_doable c.requires c.if-work-eq0.false) c.args.numbers.now c.fill_numbers.ensures in
     λ i. record { tables = c.write_tables.ensures i; room = record { buffer = buffer i; numbers = numbers i } }

@@ -14,7 +14,9 @@ use lib.ListN.{take, drop, set, length-set}
 use Rattle.laws.proofs.SetsLaws.{part-sets}
 use Rattle.preallocate.specs.Plan.{Plan}
 use Rattle.preallocate.specs.declared.turns.Plan.{Plan as Counts}
-use Rattle.finisher.proofs.CarryLaws.{plan_is, written_are, written_some, numbers_count}
+use Rattle.allocator.specs.OpenSave.{Save}
+use Rattle.finisher.specs.declared.judge.Work.{Work}
+use Rattle.finisher.proofs.CarryLaws.{plan_is, kept-is, written_are, written_some, numbers_count}
 use Rattle.finisher.proofs.NewListLaws.{numbers_none, numbers_some}
 
 -- a first number, and others written to the part behind it
@@ -23,35 +25,31 @@ behind : (l : List ℕ) (x : ℕ) (m vs : List ℕ) → suc (length vs) ≤ leng
 behind l x m vs h e = ap (put_mid 1 (length (set l 0 x) - 1) (set l 0 x)) e ∙ part-sets (set l 0 x) 1 (length (set l 0 x) - 1) vs (omega (arith, length-set l 0 x)) (omega (arith, length-set l 0 x))
 
 
-kept-is : (c : goal.Start) → c.args.work.plan.pages ≡ (plan c).kept
-kept-is c = ap (λ (p : Counts). p.pages) (plan_is c.requires.doable)
-
-
-place : (c : goal.Start) → 1 ≤ length c.args.numbers.now
-place c = omega (arith, c.requires.numbers_fit, written_are c.requires.doable, written_some c.requires.doable.save)
-
+-- there is a place for the first number
+place : {s : ℕ} {v : Save} {freed : List ℕ} {work : Work} {numbers : List ℕ} → Numberable s v freed work numbers → 1 ≤ length numbers
+place n = omega (arith, n.numbers_fit, written_are n.doable, written_some n.doable.save)
 
 -- src/carry.rt:63:9
 pub returns-then-work-eq0 : goal.returns-then-work-eq0
-returns-then-work-eq0 c = c.new_pages_lem.ensures ∙ ap (sets c.args.numbers.now 0) (sym (numbers_none (plan c) (sym (kept-is c) ∙ c.if-work-eq0.true)))
+returns-then-work-eq0 c = c.new_pages.ensures ∙ ap (sets c.args.numbers.now 0) (sym (numbers_none (plan_for c.args.page_size (save_with c.args.save c.args.pages.now c.args.entries.now) c.args.freed.now) (sym (kept-is c.requires.doable) ∙ c.if-work-eq0.true)))
 
 -- src/carry.rt:65:5
 pub bounds-numbers-0 : goal.bounds-numbers-0
-bounds-numbers-0 c = place c
+bounds-numbers-0 c = place c.requires
 
 -- src/carry.rt:73:9
 pub slice_bounds-new_pages-count : goal.slice_bounds-new_pages-count
-slice_bounds-new_pages-count c = simp length-set (place c)
+slice_bounds-new_pages-count c = simp length-set (place c.requires)
 
 -- src/carry.rt:73:9
 pub slice_bounds-new_pages-start : goal.slice_bounds-new_pages-start
-slice_bounds-new_pages-start c = simp length-set (place c)
+slice_bounds-new_pages-start c = simp length-set (place c.requires)
 
 -- src/carry.rt:49:1
 pub returns : goal.returns
 returns c =
-    let t = plan c in
-    let some : t.kept ≡ 0 → ⊥ = λ z. c.if-work-eq0.false (kept-is c ∙ z) in
+    let t = plan_for c.args.page_size (save_with c.args.save c.args.pages.now c.args.entries.now) c.args.freed.now in
+    let some : t.kept ≡ 0 → ⊥ = λ z. c.if-work-eq0.false (kept-is c.requires.doable ∙ z) in
     let room : suc (length t.fresh) ≤ length c.args.numbers.now =
     omega (arith, c.requires.numbers_fit, written_are c.requires.doable, numbers_count c.requires.doable.save, ap length (numbers_some t some)) in
     behind c.args.numbers.now c.args.work.plan.top _ t.fresh room c.new_pages-2.ensures

@@ -16,11 +16,9 @@ use Rattle.free_list.proofs.ShapeLaws.{shaped}
 use Rattle.finisher.proofs.CarryLaws.{standing, bounds, pushed_is, pushable, entries_carried, pages_room, pages_carried}
 
 -- the test of the mended list, at the capacity
-mended-is : (c : goal.After-mends-mended) → c.mends-mended.result ≡ eqb (start c).args.work.popped 0 && is_fragmented (capacity (start c).args.page_size) (start c).args.save.start.pages (start c).args.save.start.entries
-mended-is c =
-    let a = (start c).args in
-    c.mends-mended.ensures ∙ ap (λ (k : ℕ). eqb a.work.popped 0 && is_fragmented k a.save.start.pages a.save.start.entries) c.max_pns_per_page-c.ensures
-
+mended_is : (s popped P L : ℕ) {c : ℕ} {mended : Bool} → c ≡ capacity s → mended ≡ eqb popped 0 && is_fragmented c P L
+    → mended ≡ eqb popped 0 && is_fragmented (capacity s) P L
+mended_is s popped P L capped tested = tested ∙ ap (λ (k : ℕ). eqb popped 0 && is_fragmented k P L) capped
 
 -- src/carry.rt:119:9
 pub mends-mended-requires : goal.mends-mended-requires
@@ -30,26 +28,24 @@ mends-mended-requires c =
 
 -- src/carry.rt:120:30
 pub overflow_sub-low : goal.overflow_sub-low
-overflow_sub-low c = let h = (start c).requires.fillable.doable in omega (arith, (bounds h.save).longer, pushed_is h)
+overflow_sub-low c = let h = c.requires.fillable.doable in omega (arith, (bounds h.save).longer, pushed_is h)
 
 -- src/carry.rt:120:15
 pub overflow_sub-low-2 : goal.overflow_sub-low-2
-overflow_sub-low-2 c = let h = (start c).requires.fillable.doable in omega (arith, (bounds h.save).few, pushed_is h)
+overflow_sub-low-2 c = let h = c.requires.fillable.doable in omega (arith, (bounds h.save).few, pushed_is h)
 
 -- src/carry.rt:121:5
 pub write_pushes-requires : goal.write_pushes-requires
-write_pushes-requires c = pushable (start c).requires.fillable.doable (mended-is c)
+write_pushes-requires c = pushable c.requires.fillable.doable (mended_is c.args.page_size c.args.work.popped c.args.save.start.pages c.args.save.start.entries c.max_pns_per_page-c.ensures c.mends-mended.ensures)
 
 -- src/carry.rt:131:5
 pub copy_numbers-requires : goal.copy_numbers-requires
 copy_numbers-requires c =
-    let s = start c in
-    (s.pre.fillable.numbers_fit, omega (arith, pages_room s.pre.fillable.doable, c.one_less-first.ensures))
+    (c.requires.fillable.numbers_fit, omega (arith, pages_room c.requires.fillable.doable, c.one_less-first.ensures))
 
 -- src/carry.rt:105:1
 pub returns : goal.returns
 returns c =
-    let s = start c in
-    let pages = pages_carried s.pre.fillable.doable s.args.numbers.now c.one_less-first.ensures s.pre.numbers_are c.copy_numbers.ensures in
-    let entries = entries_carried s.pre.fillable.doable (mended-is c) c.write_pushes.ensures in
+    let pages = pages_carried c.requires.fillable.doable c.args.numbers.now c.one_less-first.ensures c.requires.numbers_are c.copy_numbers.ensures in
+    let entries = entries_carried c.requires.fillable.doable (mended_is c.args.page_size c.args.work.popped c.args.save.start.pages c.args.save.start.entries c.max_pns_per_page-c.ensures c.mends-mended.ensures) c.write_pushes.ensures in
     λ i. record { pages = pages i; entries = entries i }

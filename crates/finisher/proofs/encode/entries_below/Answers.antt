@@ -20,8 +20,8 @@ returns-then-j-pages c = below_inner _ _ _ _ c.if-j-pages.true
 
 -- src/encode.rt:26:9
 pub returns-then-is_fragmented : goal.returns-then-is_fragmented
-returns-then-is_fragmented c = below-fragmented _ _ _ _ (omega arith) (sym c.is_fragmented_lem.ensures ∙ c.if-is_fragmented.true)
+returns-then-is_fragmented c = below-fragmented _ _ _ _ (omega arith) (sym c.is_fragmented.ensures ∙ c.if-is_fragmented.true)
 
 -- src/encode.rt:15:1
 pub returns : goal.returns
-returns c = below-head _ _ _ _ (omega arith) (sym c.is_fragmented_lem.ensures ∙ c.if-is_fragmented.false)
+returns c = below-head _ _ _ _ (omega arith) (sym c.is_fragmented.ensures ∙ c.if-is_fragmented.false)
