@@ -5,6 +5,7 @@ ghost use Rattle.listing.specs.Lines.{end_of_line};
 ghost use Rattle.listing.specs.Accumulated.{no_bytes, no_size, with_byte, with_bytes, accumulated_size};
 
 // The place of the first newline at or after `from`, or the length; `from` where that is past the end.
+#[tactic(auto, using(crate::proofs::LinesLaws::end_here, crate::proofs::LinesLaws::end_next, crate::proofs::LinesLaws::end_past))]
 pub fn end_of_line(bytes: &[u8], from: usize) -> usize
     ensures { result ≡ end_of_line bytes.now from }
 {
@@ -60,6 +61,7 @@ impl Line {
         self.digits == 0
     }
 
+    #[tactic(auto, unfolding(crate::specs::Accumulated::accumulated_size))]
     pub fn size(self) -> Size
         ensures { result ≡ accumulated_size self }
     {
@@ -73,6 +75,7 @@ impl Line {
     }
 
     // After one byte more. Up to eight digits write less than 100,000,000: that test is there so that no sum wraps.
+    #[tactic(auto, using(crate::proofs::DecimalLaws::digit_range), unfolding(crate::specs::Accumulated::with_byte))]
     fn with_byte(self, byte: u8) -> Line
         ensures { result ≡ with_byte self byte }
     {
@@ -92,6 +95,7 @@ impl Line {
     }
 
     // After a part of the line.
+    #[tactic(auto, using(crate::proofs::AccumulatedLaws::with_bytes_at, crate::proofs::AccumulatedLaws::with_bytes_past))]
     pub fn with_bytes(self, bytes: &[u8]) -> Line
         ensures { result ≡ with_bytes self bytes.now }
     {
@@ -105,6 +109,7 @@ impl Line {
     }
 }
 
+#[tactic(auto, unfolding(crate::specs::Decimal::is_digit))]
 fn is_digit(byte: u8) -> bool
     ensures { result ≡ is_digit byte }
 {

@@ -16,6 +16,7 @@ use page::size::PAGE_SIZE;
 // The text of a line that was read has at most so many bytes: `max_text` of specs/Text.
 pub const MAX_TEXT: usize = 64;
 
+#[tactic(auto, unfolding(crate::specs::Text::header))]
 pub fn put_header(out: &mut [u8], at: usize) -> usize
     ensures { Put out.old at header out.new result }
 {

@@ -6,9 +6,9 @@
 ghost use Rattle.std.specs.Prelude.{◌+◌, ◌*◌, ◌≤◌, length};
 ghost use Rattle.listing.specs.Text.{max_text};
 
-use libc::{STDIN_FILENO, STDOUT_FILENO};
 use listing::line::{Line, end_of_line};
 use listing::text::{MAX_TEXT, put_header, put_line};
+use std::io::{Read, Write};
 
 // How far the listing is: the line that is being read, the bytes of the output buffer that wait to be written, and whether to go on.
 #[derive(Clone, Copy)]
@@ -18,14 +18,15 @@ struct Progress {
     going: bool,
 }
 
-fn main() {
-    let mut input = io::large_buffer();
-    let mut output = io::buffer();
-    list(&mut input, &mut output);
+fn main(rt: HostRuntime) {
+    let mut input = [0u8; 65536];
+    let mut output = [0u8; 4096];
+    list(&mut rt.stdin(), &mut rt.stdout(), &mut input, &mut output);
 }
 
 // A proved loop has to end, and nothing says that the input does. So the loop counts its turns down, from a number that no run uses up.
-fn list(input: &mut [u8], output: &mut [u8])
+#[tactic(auto, unfolding(listing::specs::Text::header))]
+fn list(reader: &mut impl Read, writer: &mut impl Write, input: &mut [u8], output: &mut [u8])
     requires { 2 * max_text ≤ length output.old }
 {
     let mut progress = Progress {
@@ -35,31 +36,37 @@ fn list(input: &mut [u8], output: &mut [u8])
     };
     let mut turns = u64::MAX;
     while turns > 0 && progress.going {
-        progress = list_some(input, output, progress);
+        progress = list_some(reader, writer, input, output, progress);
         turns -= 1;
     }
 }
 
 // Reads once, and lists the lines that end in what came. At the end of the input, or where it cannot be read, lists what is left.
-fn list_some(input: &mut [u8], output: &mut [u8], progress: Progress) -> Progress
+fn list_some(
+    reader: &mut impl Read,
+    writer: &mut impl Write,
+    input: &mut [u8],
+    output: &mut [u8],
+    progress: Progress,
+) -> Progress
     requires { progress.waiting + max_text ≤ length output.old }
     ensures { result.waiting + max_text ≤ length output.new }
 {
-    let got = libc::read(STDIN_FILENO, input);
-    let count = io::count(got, input);
+    let count = reader.read(input).unwrap_or(0);
     if count == 0 {
-        list_last(output, progress.line, progress.waiting);
+        list_last(writer, output, progress.line, progress.waiting);
         return Progress {
             line: Line::new(),
             waiting: 0,
             going: false,
         };
     }
-    list_lines(&input[..count], output, progress)
+    list_lines(writer, &input[..count], output, progress)
 }
 
 // Lists the lines that end in `bytes`, and keeps what follows them.
-fn list_lines(bytes: &[u8], output: &mut [u8], start: Progress) -> Progress
+#[tactic(auto, using(listing::proofs::LinesLaws::end_after, listing::proofs::LinesLaws::end_within))]
+fn list_lines(writer: &mut impl Write, bytes: &[u8], output: &mut [u8], start: Progress) -> Progress
     requires { start.waiting + max_text ≤ length output.old }
     ensures { result.waiting + max_text ≤ length output.new }
 {
@@ -75,14 +82,14 @@ fn list_lines(bytes: &[u8], output: &mut [u8], start: Progress) -> Progress
                 going: true,
             };
         }
-        progress = list_line(output, line, progress.waiting);
+        progress = list_line(writer, output, line, progress.waiting);
         from = end + 1;
     }
     progress
 }
 
 // Lists a line that ended. What waits is written where the text of another line may not have room.
-fn list_line(output: &mut [u8], line: Line, waiting: usize) -> Progress
+fn list_line(writer: &mut impl Write, output: &mut [u8], line: Line, waiting: usize) -> Progress
     requires { waiting + max_text ≤ length output.old }
     ensures { result.waiting + max_text ≤ length output.new }
 {
@@ -94,7 +101,7 @@ fn list_line(output: &mut [u8], line: Line, waiting: usize) -> Progress
             going: true,
         };
     }
-    let is_written = write(output, end);
+    let is_written = write(writer, output, end);
     Progress {
         line: Line::new(),
         waiting: 0,
@@ -103,20 +110,20 @@ fn list_line(output: &mut [u8], line: Line, waiting: usize) -> Progress
 }
 
 // Lists the last line, if it lacks its newline, and writes what waits.
-fn list_last(output: &mut [u8], line: Line, waiting: usize)
+fn list_last(writer: &mut impl Write, output: &mut [u8], line: Line, waiting: usize)
     requires { waiting + max_text ≤ length output.old }
 {
     if line.is_empty() {
-        write(output, waiting);
+        write(writer, output, waiting);
         return;
     }
     let end = put_line(line, output, waiting);
-    write(output, end);
+    write(writer, output, end);
 }
 
 // Writes what waits in the output buffer, and answers whether it could.
-fn write(output: &[u8], waiting: usize) -> bool
+fn write(writer: &mut impl Write, output: &[u8], waiting: usize) -> bool
     requires { waiting ≤ length output.now }
 {
-    io::write_all(STDOUT_FILENO, &output[..waiting])
+    writer.write_all(&output[..waiting]).is_ok()
 }
