@@ -5,10 +5,10 @@
 
 ghost use Rattle.io.specs.Counts.{IsPrefixLen};
 
-use libc::{STDIN_FILENO, STDOUT_FILENO};
 use record_line::numbers::MOST;
 use record_line::reading::{Reading, with_byte, with_number};
 use replayed::replay;
+use std::io::{Read, Write};
 
 // So many wrong lines are named.
 const MOST_NAMED: u64 = 10;
@@ -23,14 +23,19 @@ struct Progress {
     going: bool,
 }
 
-fn main() {
-    let mut input = io::large_buffer();
+fn main(rt: HostRuntime) {
+    let mut input = [0u8; 65536];
     let mut table = [0u64; MOST];
-    replay_all(&mut input, &mut table);
+    replay_all(&mut rt.stdin(), &mut rt.stdout(), &mut input, &mut table);
 }
 
 // A proved loop has to end, and nothing says that the input does. So the loop counts its turns down, from a number that no run uses up.
-fn replay_all(input: &mut [u8], table: &mut [u64]) {
+fn replay_all(
+    reader: &mut impl Read,
+    writer: &mut impl Write,
+    input: &mut [u8],
+    table: &mut [u64],
+) {
     let mut progress = Progress {
         reading: Reading::new(),
         lines: 0,
@@ -40,46 +45,61 @@ fn replay_all(input: &mut [u8], table: &mut [u64]) {
     };
     let mut turns = u64::MAX;
     while turns > 0 && progress.going {
-        progress = replay_some(input, table, progress);
+        progress = replay_some(reader, writer, input, table, progress);
         turns -= 1;
     }
-    print_counts(progress);
+    print_counts(writer, progress);
 }
 
 // Reads once, and replays the lines that end in what came. At the end of the input replays what is left.
-fn replay_some(input: &mut [u8], table: &mut [u64], progress: Progress) -> Progress {
-    let got = libc::read(STDIN_FILENO, input);
-    let count = io::count(got, input);
+fn replay_some(
+    reader: &mut impl Read,
+    writer: &mut impl Write,
+    input: &mut [u8],
+    table: &mut [u64],
+    progress: Progress,
+) -> Progress {
+    let count = reader.read(input).unwrap_or(0);
     if count == 0 {
-        return replay_last(table, progress);
+        return replay_last(writer, table, progress);
     }
-    replay_bytes(&input[..count], table, progress)
+    replay_bytes(writer, &input[..count], table, progress)
 }
 
 // The last line, if it lacks its newline.
-fn replay_last(table: &mut [u64], progress: Progress) -> Progress {
+fn replay_last(writer: &mut impl Write, table: &mut [u64], progress: Progress) -> Progress {
     let mut last = progress;
     if !progress.reading.is_empty() {
-        last = replay_line(table, progress);
+        last = replay_line(writer, table, progress);
     }
     last.going = false;
     last
 }
 
 // Reads bytes, and replays the lines that end in them.
-fn replay_bytes(bytes: &[u8], table: &mut [u64], start: Progress) -> Progress {
+fn replay_bytes(
+    writer: &mut impl Write,
+    bytes: &[u8],
+    table: &mut [u64],
+    start: Progress,
+) -> Progress {
     let mut progress = start;
     let mut i = 0;
     while i < bytes.len() {
-        progress = replay_byte(bytes[i], table, progress);
+        progress = replay_byte(writer, bytes[i], table, progress);
         i += 1;
     }
     progress
 }
 
-fn replay_byte(byte: u8, table: &mut [u64], progress: Progress) -> Progress {
+fn replay_byte(
+    writer: &mut impl Write,
+    byte: u8,
+    table: &mut [u64],
+    progress: Progress,
+) -> Progress {
     if byte == b'\n' {
-        return replay_line(table, progress);
+        return replay_line(writer, table, progress);
     }
     let mut next = progress;
     next.reading = with_byte(progress.reading, table, byte);
@@ -87,7 +107,7 @@ fn replay_byte(byte: u8, table: &mut [u64], progress: Progress) -> Progress {
 }
 
 // Replays a line that ended.
-fn replay_line(table: &mut [u64], progress: Progress) -> Progress {
+fn replay_line(writer: &mut impl Write, table: &mut [u64], progress: Progress) -> Progress {
     let reading = with_number(progress.reading, table);
     let mut next = progress;
     next.reading = Reading::new();
@@ -95,7 +115,7 @@ fn replay_line(table: &mut [u64], progress: Progress) -> Progress {
     if reading.skipped {
         return next;
     }
-    counted(next, is_right(reading, table))
+    counted(writer, next, is_right(reading, table))
 }
 
 fn is_right(reading: Reading, table: &[u64]) -> bool {
@@ -117,7 +137,7 @@ fn within(n: usize, table: &[u64]) -> usize
 }
 
 // After a call, right or wrong. The first wrong lines are named.
-fn counted(progress: Progress, right: bool) -> Progress {
+fn counted(writer: &mut impl Write, progress: Progress, right: bool) -> Progress {
     let mut next = progress;
     next.calls = one_more(progress.calls);
     if right {
@@ -125,7 +145,7 @@ fn counted(progress: Progress, right: bool) -> Progress {
     }
     next.wrong = one_more(progress.wrong);
     if progress.wrong < MOST_NAMED {
-        name_line(progress.lines);
+        name_line(writer, progress.lines);
     }
     next
 }
@@ -135,16 +155,13 @@ fn one_more(n: u64) -> u64 {
     if n == u64::MAX { n } else { n + 1 }
 }
 
-fn name_line(line: u64) {
-    io::write_all(STDOUT_FILENO, b"line ");
-    io::print_decimal(STDOUT_FILENO, line);
-    io::write_all(STDOUT_FILENO, b" wrong\n");
+// What cannot be written is left out.
+fn name_line(writer: &mut impl Write, line: u64) {
+    let _ = writeln!(writer, "line {line} wrong");
 }
 
-fn print_counts(progress: Progress) {
-    io::write_all(STDOUT_FILENO, b"replayed ");
-    io::print_decimal(STDOUT_FILENO, progress.calls);
-    io::write_all(STDOUT_FILENO, b" calls, ");
-    io::print_decimal(STDOUT_FILENO, progress.wrong);
-    io::write_all(STDOUT_FILENO, b" wrong\n");
+fn print_counts(writer: &mut impl Write, progress: Progress) {
+    let calls = progress.calls;
+    let wrong = progress.wrong;
+    let _ = writeln!(writer, "replayed {calls} calls, {wrong} wrong");
 }
