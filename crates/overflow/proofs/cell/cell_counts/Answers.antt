@@ -4,22 +4,18 @@ use borrow.Author.Tests.{le-leb, lt-leb, eq-eqb, ne_eqb}
 use Rattle.page.proofs.BytesLaws.{length-numbers_at}
 use Rattle.overflow.specs.Cells.{cell_size, cell_count, cell_of, decode_cell}
 
--- src/cell.rt:74:9
 pub returns-then-length-lt44 : goal.returns-then-length-lt44
 unfolding cell_counts decode_cell
 returns-then-length-lt44 c = rw (lt-leb 44 _ c.if-length-lt44.true)
 
--- src/cell.rt:77:9
 pub returns-then-length-ne0 : goal.returns-then-length-ne0
 unfolding cell_counts decode_cell
 returns-then-length-ne0 c = rw (le-leb 44 _ c.if-length-lt44.false, ne_eqb _ 0 c.if-length-ne0.true)
 
--- src/cell.rt:81:9
 pub returns-then-max_overflow_value_size-size : goal.returns-then-max_overflow_value_size-size
 unfolding cell_counts decode_cell cell_size
 returns-then-max_overflow_value_size-size c = rw (le-leb 44 _ c.if-length-lt44.false, eq-eqb _ 0 c.if-length-ne0.false, ← c.read_u64-size.ensures, ← c.max_overflow_value_size.ensures, lt-leb _ _ c.if-max_overflow_value_size-size.true)
 
--- src/cell.rt:69:1
 pub returns : goal.returns
 unfolding cell_counts decode_cell cell_of cell_size cell_count
 returns c = rw (le-leb 44 _ c.if-length-lt44.false, eq-eqb _ 0 c.if-length-ne0.false, ← c.read_u64-size.ensures, ← c.max_overflow_value_size.ensures, le-leb _ _ c.if-max_overflow_value_size-size.false, length-numbers_at)

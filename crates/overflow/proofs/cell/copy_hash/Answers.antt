@@ -3,7 +3,6 @@ use mathlib.Core.Path.{◌∙◌}
 use native.Mathlib.Omega.{arith}
 use Rattle.laws.proofs.SetsLaws.{part_copied}
 
--- src/cell.rt:90:1
 pub returns : goal.returns
 returns c =
     let x = c.args in

@@ -2,16 +2,13 @@ use Rattle.overflow.proofs.cell.decode_cell.Goals as goal
 use native.Mathlib.Omega.{arith}
 use Rattle.overflow.proofs.CellsLaws.{decoding, into-refused, into-decoded}
 
--- src/cell.rt:61:13
 pub copy_hash-requires : goal.copy_hash-requires
 copy_hash-requires c =
     let d = decoding _ _ c.in-Cell.ensures in
     (omega (arith, d.long), omega (arith, c.well_formed))
 
--- src/cell.rt:55:1
 pub returns-in-Cell : goal.returns-in-Cell
 returns-in-Cell c = rw (← c.bytes.ensures) (into-decoded _ _ _ c.in-Cell.ensures c.copy_hash.ensures)
 
--- src/cell.rt:55:1
 pub returns-in-Refused : goal.returns-in-Refused
 returns-in-Refused c = rw (← c.bytes.ensures) (into-refused _ _ _ c.in-Refused.ensures)

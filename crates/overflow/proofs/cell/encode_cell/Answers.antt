@@ -2,15 +2,12 @@ use Rattle.overflow.proofs.cell.encode_cell.Goals as goal
 use native.Mathlib.Omega.{arith}
 use Rattle.overflow.proofs.CellsLaws.{cell_large, cell-short, cell-written}
 
--- src/cell.rt:41:9
 pub returns-then-max_overflow_value_size-size : goal.returns-then-max_overflow_value_size-size
 returns-then-max_overflow_value_size-size c = cell_large _ _ _ _ _ (rw (← c.bytes-page_bytes.ensures, ← c.max_overflow_value_size.ensures) c.if-max_overflow_value_size-size.true)
 
--- src/cell.rt:46:9
 pub returns-then-cell-length : goal.returns-then-cell-length
 returns-then-cell-length c = cell-short _ _ _ _ _ (rw (← c.bytes-page_bytes.ensures, ← c.max_overflow_value_size.ensures) c.if-max_overflow_value_size-size.false) c.if-cell-length.true
 
--- src/cell.rt:30:1
 pub returns : goal.returns
 returns c =
     let few = rw (c.max_overflow_value_size.ensures, c.bytes-page_bytes.ensures) at c.if-max_overflow_value_size-size.false in

@@ -4,11 +4,9 @@ use Rattle.overflow.proofs.chunk.write_page.Goals as goal
 use mathlib.Core.Path.{refl, ◌∙◌}
 use Rattle.overflow.proofs.ChunkLaws.{encodable, same_numbers}
 
--- src/chunk.rt:58:5
 pub encode_value_page-requires : goal.encode_value_page-requires
 encode_value_page-requires c = (c.requires.0, rw (c.bytes_on-v.ensures, c.numbers_on-n.ensures) (encodable c.requires.0 c.requires.1 c.args.value.now c.args.numbers.now refl c.requires.2))
 
--- src/chunk.rt:51:1
 pub returns : goal.returns
 unfolding value_page bytes_part
 returns c =

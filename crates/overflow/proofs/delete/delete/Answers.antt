@@ -5,21 +5,17 @@ use Rattle.overflow.proofs.TotalsLaws.{is_page-size}
 use Rattle.overflow.proofs.AdmitLaws.{admission}
 use Rattle.overflow.proofs.ReadLaws.{delete_refused, delete_admitted_lem}
 
--- src/delete.rt:29:11
 pub admit-requires : goal.admit-requires
 admit-requires c = is_page-size _ c.bytes-page_bytes.ensures
 
--- src/delete.rt:31:35
 pub delete_pages-requires : goal.delete_pages-requires
 delete_pages-requires c = (is_page-size _ c.bytes-page_bytes.ensures, (admission _ _ _ _ (is_page-size _ c.bytes-page_bytes.ensures) c.in-Value.ensures).celled _ refl)
 
--- src/delete.rt:24:1
 pub returns-in-Refused : goal.returns-in-Refused
 returns-in-Refused c =
     rw (← c.bytes-page_bytes.ensures)
     (delete_refused _ _ _ _ (ap admitted_outcome (sym c.in-Refused.is) ∙ rw c.max_overflow_value_size-largest.ensures at c.admit.ensures))
 
--- src/delete.rt:24:1
 pub returns-in-Value : goal.returns-in-Value
 returns-in-Value c =
     rw (← c.bytes-page_bytes.ensures)

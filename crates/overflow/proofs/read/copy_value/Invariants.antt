@@ -2,9 +2,10 @@ use Rattle.std.proofs.Common.{◌-◌}
 use Rattle.overflow.proofs.read.copy_value.Given as goal
 use Rattle.overflow.proofs.CopyingLaws.{Copying}
 
+-- the value buffer has the bytes of the pages so far
 abbrev pub invariant-loop-i : goal.invariant-loop-i
 invariant-loop-i l = Copying l.page_size l.store l.numbers l.total l.initial.value l.value l.i l.at
 
--- proposed from the loop's first test
+-- the pages whose bytes are still to copy
 abbrev pub decreases-loop-i : goal.decreases-loop-i
 decreases-loop-i l = l.total - l.i

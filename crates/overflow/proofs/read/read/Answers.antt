@@ -4,20 +4,16 @@ use Rattle.overflow.proofs.TotalsLaws.{is_page-size}
 use Rattle.overflow.proofs.AdmitLaws.{admission}
 use Rattle.overflow.proofs.ReadLaws.{read_refused, read_admitted_lem}
 
--- src/read.rt:42:11
 pub admit-requires : goal.admit-requires
 admit-requires c = is_page-size _ c.bytes-page_bytes.ensures
 
--- src/read.rt:44:35
 pub read_pages-requires : goal.read_pages-requires
 read_pages-requires c =
     let a = admission _ _ _ _ (is_page-size _ c.bytes-page_bytes.ensures) c.in-Value.ensures in
     (is_page-size _ c.bytes-page_bytes.ensures, record { celled = a.celled _ refl; room = a.value })
 
--- src/read.rt:32:1
 pub returns-in-Refused : goal.returns-in-Refused
 returns-in-Refused c = rw (← c.bytes-page_bytes.ensures) (read_refused _ _ _ _ _ c.in-Refused.ensures)
 
--- src/read.rt:32:1
 pub returns-in-Value : goal.returns-in-Value
 returns-in-Value c = rw (← c.bytes-page_bytes.ensures) (c.read_pages.ensures ∙ read_admitted_lem _ _ _ _ _ (admission _ _ _ _ (is_page-size _ c.bytes-page_bytes.ensures) c.in-Value.ensures))

@@ -2,7 +2,6 @@ use Rattle.overflow.specs.Totals.{max_size}
 use Rattle.overflow.proofs.total.max_overflow_value_size.Goals as goal
 use mathlib.Core.Path.{refl}
 
--- src/total.rt:49:1
 pub returns : goal.returns
 unfolding max_size
 returns c = refl

@@ -4,23 +4,18 @@ use native.Mathlib.Omega.{arith}
 use Rattle.page.proofs.PageSizeLaws.{page_least}
 use Rattle.overflow.proofs.TotalsLaws.{max_size_lem}
 
--- src/total.rt:91:16
 pub overflow_sub-body : goal.overflow_sub-body
 overflow_sub-body c = omega (arith, page_least c.requires.0)
 
--- src/total.rt:92:14
 pub overflow_sub-result : goal.overflow_sub-result
 overflow_sub-result c = omega (arith, page_least c.requires.0)
 
--- src/total.rt:92:6
 pub overflow_add-result : goal.overflow_add-result
 overflow_add-result c = omega (arith, max_size_lem c.args.page_size)
 
--- src/total.rt:92:5
 pub nonzero_div-result : goal.nonzero_div-result
 nonzero_div-result c = omega (arith, page_least c.requires.0)
 
--- src/total.rt:87:1
 pub returns : goal.returns
 unfolding raw_pages
 returns c = omega arith

@@ -9,38 +9,32 @@ use Rattle.page.proofs.PageSizeLaws.{page_least}
 use Rattle.overflow.specs.Totals.{cell_numbers, body}
 use Rattle.overflow.proofs.TotalsLaws.{max_size_lem, total_enough, total_tight, total_small}
 
+-- the bodies of the pages hold the value and its numbers, and are not much more
 room : {s size total : ℕ} → IsPageSize s × (size ≤ max_size s) × (total ≡ total_pages s size) → (size + 4 * (total - cell_numbers) ≤ body s * total) × (body s * total < 2 ^ 32)
 room {s} {size} (page, few, e) =
     rw e
     (total_enough size page, omega (arith, total_tight size page, total_small size page, page.limit, max_size_lem s))
 
--- src/total.rt:79:17
 pub overflow_sub-left : goal.overflow_sub-left
 overflow_sub-left c = omega (arith, page_least c.requires.0)
 
--- src/total.rt:79:16
 pub overflow_mul-left : goal.overflow_mul-left
 overflow_mul-left c = omega (arith, room c.requires)
 
--- src/total.rt:79:16
 pub overflow_sub-left-2 : goal.overflow_sub-left-2
 overflow_sub-left-2 c = omega (arith, room c.requires)
 
--- src/total.rt:81:9
 pub returns-then-total-le-MAX_OVERFLOW_CELL_NODE_POINTERS :
     goal.returns-then-total-le-MAX_OVERFLOW_CELL_NODE_POINTERS
 unfolding spare_room
 returns-then-total-le-MAX_OVERFLOW_CELL_NODE_POINTERS c = rw (le-ltb _ _ c.if-total-le-MAX_OVERFLOW_CELL_NODE_POINTERS.true)
 
--- src/total.rt:83:12
 pub overflow_mul-result : goal.overflow_mul-result
 overflow_mul-result c = omega (arith, room c.requires, page_least c.requires.0)
 
--- src/total.rt:83:5
 pub overflow_sub-result-2 : goal.overflow_sub-result-2
 overflow_sub-result-2 c = omega (arith, room c.requires)
 
--- src/total.rt:75:1
 pub returns : goal.returns
 unfolding spare_room
 returns c = rw (lt-ltb _ _ c.if-total-le-MAX_OVERFLOW_CELL_NODE_POINTERS.false)

@@ -25,58 +25,45 @@ raw-facts {s} {size} {raw} page limit e =
     subst⁻¹ (λ (r : ℕ). Raw s size r) e
     (record { large = page_least page; covers = raw_covers size page; tight = raw_tight size page; few = omega (arith, mul-le-mul_right (raw_pages s size) one); small = omega (arith, max_size_lem s) })
 
--- src/total.rt:62:9
 pub returns-then-raw-le-MAX_OVERFLOW_CELL_NODE_POINTERS :
     goal.returns-then-raw-le-MAX_OVERFLOW_CELL_NODE_POINTERS
 unfolding total_pages
 returns-then-raw-le-MAX_OVERFLOW_CELL_NODE_POINTERS c = rw (← c.needed_pages-raw.ensures, le-leb _ _ c.if-raw-le-MAX_OVERFLOW_CELL_NODE_POINTERS.true)
 
--- src/total.rt:64:16
 pub overflow_sub-body : goal.overflow_sub-body
 overflow_sub-body c = omega (arith, page_least c.requires.0)
 
--- src/total.rt:66:16
 pub overflow_mul-left : goal.overflow_mul-left
 overflow_mul-left c = let h = raw-facts c.requires.0 c.requires.1 c.needed_pages-raw.ensures in omega (arith, c.requires)
 
--- src/total.rt:66:16
 pub overflow_sub-left : goal.overflow_sub-left
 overflow_sub-left c = let h = raw-facts c.requires.0 c.requires.1 c.needed_pages-raw.ensures in omega arith
 
--- src/total.rt:68:9
 pub returns-then-numbers-left : goal.returns-then-numbers-left
 unfolding total_pages
 returns-then-numbers-left c = rw (← c.needed_pages-raw.ensures, lt-leb _ _ c.if-raw-le-MAX_OVERFLOW_CELL_NODE_POINTERS.false, le-leb _ _ c.if-numbers-left.true)
 
--- src/total.rt:70:26
 pub overflow_mul-missing : goal.overflow_mul-missing
 overflow_mul-missing c = let h = raw-facts c.requires.0 c.requires.1 c.needed_pages-raw.ensures in omega (arith, c.requires)
 
--- src/total.rt:70:19
 pub overflow_add-missing : goal.overflow_add-missing
 overflow_add-missing c = let h = raw-facts c.requires.0 c.requires.1 c.needed_pages-raw.ensures in omega (arith, c.requires)
 
--- src/total.rt:70:40
 pub overflow_mul-missing-2 : goal.overflow_mul-missing-2
 overflow_mul-missing-2 c = let h = raw-facts c.requires.0 c.requires.1 c.needed_pages-raw.ensures in omega (arith, c.requires)
 
--- src/total.rt:71:23
 pub overflow_sub-result : goal.overflow_sub-result
 overflow_sub-result c = omega (arith, page_least c.requires.0)
 
--- src/total.rt:71:12
 pub overflow_add-result : goal.overflow_add-result
 overflow_add-result c = let h = raw-facts c.requires.0 c.requires.1 c.needed_pages-raw.ensures in omega (arith, c.requires)
 
--- src/total.rt:71:37
 pub overflow_sub-result-2 : goal.overflow_sub-result-2
 overflow_sub-result-2 c = omega (arith, page_least c.requires.0)
 
--- src/total.rt:71:11
 pub nonzero_div-result : goal.nonzero_div-result
 nonzero_div-result c = omega (arith, page_least c.requires.0)
 
--- src/total.rt:56:1
 pub returns : goal.returns
 unfolding total_pages
 returns c = rw (← c.needed_pages-raw.ensures, lt-leb _ _ c.if-raw-le-MAX_OVERFLOW_CELL_NODE_POINTERS.false, lt-leb _ _ c.if-numbers-left.false)

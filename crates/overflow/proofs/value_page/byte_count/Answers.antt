@@ -1,7 +1,6 @@
 use Rattle.overflow.specs.ValuePages.{byte_count}
 use Rattle.overflow.proofs.value_page.byte_count.Goals as goal
 
--- src/value_page.rt:24:1
 pub returns : goal.returns
 unfolding byte_count
 returns c = c.read_u16.ensures

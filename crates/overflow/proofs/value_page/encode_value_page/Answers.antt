@@ -6,7 +6,6 @@ use lib.ListN.{drop, length-drop}
 use lib.Seq.{length-take-le}
 use Rattle.overflow.proofs.ValuePagesLaws.{encoded}
 
--- src/value_page.rt:39:1
 pub returns : goal.returns
 returns c =
     let x = c.args in

@@ -41,19 +41,15 @@ module _ {s : ℕ} (size : IsPageSize s) (store : List ℕ) (i p : ℕ) (inside 
   unfolding parse_header parse_page
   fit few = rw (store_page s store i p inside, counts-are, le-leb _ (body s) few, header_is)
 
--- src/walk.rt:123:9
 pub returns-then-count-page : goal.returns-then-count-page
 unfolding parse_header parse_page in_store
 returns-then-count-page c = rw (le-ltb _ _ (rw c.requires.1 at c.if-count-page.true))
 
--- src/walk.rt:126:8
 pub overflow_sub-page_size : goal.overflow_sub-page_size
 overflow_sub-page_size c = omega (arith, page_least c.requires.0)
 
--- src/walk.rt:127:9
 pub returns-then-page_size-h : goal.returns-then-page_size-h
 returns-then-page_size-h c = unfit c.requires.0 c.args.store.now c.args.i c.args.page (rw c.requires.1 at c.if-count-page.false) c.page_at.ensures c.header-h.ensures.0 c.header-h.ensures.1 c.if-page_size-h.true
 
--- src/walk.rt:118:1
 pub returns : goal.returns
 returns c = fit c.requires.0 c.args.store.now c.args.i c.args.page (rw c.requires.1 at c.if-count-page.false) c.page_at.ensures c.header-h.ensures.0 c.header-h.ensures.1 c.if-page_size-h.false

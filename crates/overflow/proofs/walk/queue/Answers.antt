@@ -7,6 +7,7 @@ use native.Mathlib.Omega.{arith}
 use lib.Seq.{take_all}
 use Rattle.page.proofs.BytesLaws.{take-numbers_at, length-numbers_at}
 
+-- so many of the numbers that stand at a place are those of the smaller count
 first-numbers : (b : List ℕ) (at n room : ℕ) → take room (numbers_at 4 b at n) ≡ numbers_at 4 b at (min n room)
 first-numbers b at n room =
     by_count (dec_lt room n)
@@ -19,7 +20,6 @@ first-numbers b at n room =
         let least : min n room ≡ n = omega arith in
         rw least (take_all room (numbers_at 4 b at n) (omega (arith, length-numbers_at 4 b at n)))
 
--- src/walk.rt:145:1
 pub returns : goal.returns
 returns c =
     let x = c.args in

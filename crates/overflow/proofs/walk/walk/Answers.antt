@@ -3,7 +3,6 @@ use mathlib.Core.Path.{refl, ◌∙◌}
 use Rattle.overflow.specs.Cells.{cell_count}
 use Rattle.overflow.proofs.TableLaws.{walk_whole}
 
--- src/walk.rt:40:1
 pub returns : goal.returns
 unfolding cell_count
 returns c =
