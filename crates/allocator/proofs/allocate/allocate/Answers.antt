@@ -15,44 +15,35 @@ use Rattle.allocator.proofs.SaveLaws.{stands, refused_state, handed-listed, refu
 state_is : (z : PageSize) (v : Save) {bytes : ℕ} {fits q : Bool} → bytes ≡ page_bytes z → fits ≡ state_fits bytes v → fits ≡ q → state_fits (page_bytes z) v ≡ q
 state_is z v paged tested e = rw (← paged) (sym tested ∙ e)
 
--- src/allocate.rt:39:9
 pub state_fits-requires : goal.state_fits-requires
 state_fits-requires c = rw c.bytes-page_bytes.ensures (page-bytes c.args.page_size)
 
--- src/allocate.rt:40:9
 pub returns-then-not-state_fits : goal.returns-then-not-state_fits
 returns-then-not-state_fits c = refused_state _ _ (state_is c.args.page_size (save_of c.args.start c.args.«open» c.args.pages.now c.args.entries.now) c.bytes-page_bytes.ensures (c.state_fits.ensures c.args.«open») c.if-not-state_fits.true)
 
--- src/allocate.rt:49:27
 pub offset_bounds-entries-last : goal.offset_bounds-entries-last
 offset_bounds-entries-last c = let h = stands _ _ (state_is c.args.page_size (save_of c.args.start c.args.«open» c.args.pages.now c.args.entries.now) c.bytes-page_bytes.ensures (c.state_fits.ensures c.args.«open») c.if-not-state_fits.false) in omega arith
 
--- src/allocate.rt:49:27
 pub bounds-entries-last : goal.bounds-entries-last
 bounds-entries-last c = let h = stands _ _ (state_is c.args.page_size (save_of c.args.start c.args.«open» c.args.pages.now c.args.entries.now) c.bytes-page_bytes.ensures (c.state_fits.ensures c.args.«open») c.if-not-state_fits.false) in omega arith
 
--- src/allocate.rt:49:9
 pub returns-then-handed-listed : goal.returns-then-handed-listed
 returns-then-handed-listed c =
     let v = save_of c.args.start c.args.«open» c.args.pages.now c.args.entries.now in
     let e : v.L - 1 - v.handed ≡ v.L - suc v.handed = omega arith in
     c.counted_up.ensures ∙ rw (e, add-one) (handed-listed _ _ (state_is c.args.page_size (save_of c.args.start c.args.«open» c.args.pages.now c.args.entries.now) c.bytes-page_bytes.ensures (c.state_fits.ensures c.args.«open») c.if-not-state_fits.false) c.if-handed-listed.true)
 
--- src/allocate.rt:52:17
 pub overflow_sub-room : goal.overflow_sub-room
 overflow_sub-room c = (stands _ _ (state_is c.args.page_size (save_of c.args.start c.args.«open» c.args.pages.now c.args.entries.now) c.bytes-page_bytes.ensures (c.state_fits.ensures c.args.«open») c.if-not-state_fits.false)).most
 
--- src/allocate.rt:54:9
 pub returns-then-room-past : goal.returns-then-room-past
 returns-then-room-past c =
     let state = state_is c.args.page_size (save_of c.args.start c.args.«open» c.args.pages.now c.args.entries.now) c.bytes-page_bytes.ensures (c.state_fits.ensures c.args.«open») c.if-not-state_fits.false in
     refused-limit _ _ state c.if-handed-listed.false (omega (arith, (stands _ _ state).most))
 
--- src/allocate.rt:60:5
 pub counted_up-requires-2 : goal.counted_up-requires-2
 counted_up-requires-2 c = let h = stands _ _ (state_is c.args.page_size (save_of c.args.start c.args.«open» c.args.pages.now c.args.entries.now) c.bytes-page_bytes.ensures (c.state_fits.ensures c.args.«open») c.if-not-state_fits.false) in omega arith
 
--- src/allocate.rt:29:1
 pub returns : goal.returns
 returns c =
     let state = state_is c.args.page_size (save_of c.args.start c.args.«open» c.args.pages.now c.args.entries.now) c.bytes-page_bytes.ensures (c.state_fits.ensures c.args.«open») c.if-not-state_fits.false in

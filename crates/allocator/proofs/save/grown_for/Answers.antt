@@ -18,10 +18,8 @@ same e = cc
 never : {x n : ℕ} {vs : List ℕ} → refused n vs ≡ answer x → ⊥
 never e = let z : ◌≡◌ {A = ℕ} 0 1 = cc in omega arith
 
--- src/save.rt:66:1
 pub returns-in-To : goal.returns-in-To
 returns-in-To c = same (c.in-To.ensures ∙ grow-is _ c.requires)
 
--- src/save.rt:66:1
 pub returns-in-Refused : goal.returns-in-Refused
 returns-in-Refused c = absurd (never (c.in-Refused.ensures ∙ grow-is _ c.requires))

@@ -9,15 +9,12 @@ use Rattle.finisher.proofs.carry.carry_out.Goals as goal
 use native.Mathlib.Omega.{arith}
 use Rattle.finisher.proofs.CarryLaws.{bytes_enough, numbers_enough, goes_doable, goes_same, numbers_filled, numbers_carried, encodable, buffer-carried}
 
--- src/carry.rt:32:9
 pub returns-then-work-eq0 : goal.returns-then-work-eq0
 returns-then-work-eq0 c = goes_same c.requires c.if-work-eq0.true
 
--- src/carry.rt:34:5
 pub fill_numbers-requires : goal.fill_numbers-requires
 fill_numbers-requires c = record { doable = goes_doable c.requires c.if-work-eq0.false; numbers_fit = numbers_enough c.requires }
 
--- src/carry.rt:35:5
 pub write_tables-requires : goal.write_tables-requires
 write_tables-requires c =
     let enough = numbers_enough c.requires in
@@ -26,11 +23,9 @@ write_tables-requires c =
       numbers_are = numbers_filled (goes_doable c.requires c.if-work-eq0.false) c.args.numbers.now enough c.fill_numbers.ensures;
     }
 
--- src/carry.rt:37:5
 pub encode_pages-requires : goal.encode_pages-requires
 encode_pages-requires c = encodable (goes_doable c.requires c.if-work-eq0.false) c.write_tables.ensures c.one_less-first.ensures (bytes_enough c.requires)
 
--- src/carry.rt:18:1
 pub returns : goal.returns
 returns c =
     let buffer = buffer-carried (goes_doable c.requires c.if-work-eq0.false) c.write_tables.ensures c.one_less-first.ensures c.args.buffer.now c.encode_pages.ensures in

@@ -29,23 +29,18 @@ behind l x m vs h e = ap (put_mid 1 (length (set l 0 x) - 1) (set l 0 x)) e ∙ 
 place : {s : ℕ} {v : Save} {freed : List ℕ} {work : Work} {numbers : List ℕ} → Numberable s v freed work numbers → 1 ≤ length numbers
 place n = omega (arith, n.numbers_fit, written_are n.doable, written_some n.doable.save)
 
--- src/carry.rt:63:9
 pub returns-then-work-eq0 : goal.returns-then-work-eq0
 returns-then-work-eq0 c = c.new_pages.ensures ∙ ap (sets c.args.numbers.now 0) (sym (numbers_none (plan_for c.args.page_size (save_with c.args.save c.args.pages.now c.args.entries.now) c.args.freed.now) (sym (kept-is c.requires.doable) ∙ c.if-work-eq0.true)))
 
--- src/carry.rt:65:5
 pub bounds-numbers-0 : goal.bounds-numbers-0
 bounds-numbers-0 c = place c.requires
 
--- src/carry.rt:73:9
 pub slice_bounds-new_pages-count : goal.slice_bounds-new_pages-count
 slice_bounds-new_pages-count c = simp length-set (place c.requires)
 
--- src/carry.rt:73:9
 pub slice_bounds-new_pages-start : goal.slice_bounds-new_pages-start
 slice_bounds-new_pages-start c = simp length-set (place c.requires)
 
--- src/carry.rt:49:1
 pub returns : goal.returns
 returns c =
     let t = plan_for c.args.page_size (save_with c.args.save c.args.pages.now c.args.entries.now) c.args.freed.now in

@@ -9,10 +9,8 @@ use Rattle.finisher.proofs.carry.new_pages.Goals as goal
 use native.Mathlib.Omega.{arith}
 use Rattle.finisher.proofs.CarryLaws.{planable, named_again}
 
--- src/carry.rt:91:5
 pub plan-requires : goal.plan-requires
 plan-requires c = planable c.requires
 
--- src/carry.rt:78:1
 pub returns : goal.returns
 returns c = named_again c.requires (λ i. omega (arith, c.shared_slice_known-3-1.given i)) c.plan.ensures

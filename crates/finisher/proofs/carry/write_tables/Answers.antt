@@ -20,30 +20,24 @@ mended_is : (s popped P L : ℕ) {c : ℕ} {mended : Bool} → c ≡ capacity s 
     → mended ≡ eqb popped 0 && is_fragmented (capacity s) P L
 mended_is s popped P L capped tested = tested ∙ ap (λ (k : ℕ). eqb popped 0 && is_fragmented k P L) capped
 
--- src/carry.rt:119:9
 pub mends-mended-requires : goal.mends-mended-requires
 mends-mended-requires c =
     let st = standing c.requires.fillable.doable.save in
     omega (arith, c, st.entries_fit, (shaped _ _ _ st.shape).under, ap (λ (k : ℕ). k * (c.args.save.start.pages - 1)) c.max_pns_per_page-c.ensures)
 
--- src/carry.rt:120:30
 pub overflow_sub-low : goal.overflow_sub-low
 overflow_sub-low c = let h = c.requires.fillable.doable in omega (arith, (bounds h.save).longer, pushed_is h)
 
--- src/carry.rt:120:15
 pub overflow_sub-low-2 : goal.overflow_sub-low-2
 overflow_sub-low-2 c = let h = c.requires.fillable.doable in omega (arith, (bounds h.save).few, pushed_is h)
 
--- src/carry.rt:121:5
 pub write_pushes-requires : goal.write_pushes-requires
 write_pushes-requires c = pushable c.requires.fillable.doable (mended_is c.args.page_size c.args.work.popped c.args.save.start.pages c.args.save.start.entries c.max_pns_per_page-c.ensures c.mends-mended.ensures)
 
--- src/carry.rt:131:5
 pub copy_numbers-requires : goal.copy_numbers-requires
 copy_numbers-requires c =
     (c.requires.fillable.numbers_fit, omega (arith, pages_room c.requires.fillable.doable, c.one_less-first.ensures))
 
--- src/carry.rt:105:1
 pub returns : goal.returns
 returns c =
     let pages = pages_carried c.requires.fillable.doable c.args.numbers.now c.one_less-first.ensures c.requires.numbers_are c.copy_numbers.ensures in

@@ -13,23 +13,18 @@ use Rattle.page.specs.PageSize.{capacity}
 use Rattle.free_list.proofs.BelowLaws.{OnPage}
 use Rattle.finisher.proofs.EncodeLaws.{bounds, page-found, page-encoded}
 
--- src/encode.rt:59:52
 pub offset_bounds-entries-from : goal.offset_bounds-entries-from
 offset_bounds-entries-from c = omega (arith, page-found c.requires.0 _ c.requires.1 c.max_pns_per_page-c.ensures c.entries_below-from.ensures c.entries_below-to.ensures, c.requires.0.entries_fit)
 
--- src/encode.rt:59:52
 pub slice_bounds-encode_free_list_page-count : goal.slice_bounds-encode_free_list_page-count
 slice_bounds-encode_free_list_page-count c = (page-found c.requires.0 _ c.requires.1 c.max_pns_per_page-c.ensures c.entries_below-from.ensures c.entries_below-to.ensures).order
 
--- src/encode.rt:59:52
 pub slice_bounds-encode_free_list_page-start : goal.slice_bounds-encode_free_list_page-start
 slice_bounds-encode_free_list_page-start c = (page-found c.requires.0 _ c.requires.1 c.max_pns_per_page-c.ensures c.entries_below-from.ensures c.entries_below-to.ensures).order
 
--- src/encode.rt:59:52
 pub slice_bounds-encode_free_list_page-end : goal.slice_bounds-encode_free_list_page-end
 slice_bounds-encode_free_list_page-end c = omega (arith, page-found c.requires.0 _ c.requires.1 c.max_pns_per_page-c.ensures c.entries_below-from.ensures c.entries_below-to.ensures, c.requires.0.entries_fit)
 
--- src/encode.rt:44:1
 pub returns : goal.returns
 returns c =
     let from = c.entries_below-from.result in

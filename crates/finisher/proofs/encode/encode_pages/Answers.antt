@@ -54,33 +54,28 @@ module _ {s : ℕ} {pages entries : List ℕ} {P L : ℕ} (l : Listed s pages en
       put ∙ rw more (pages_more l first n (omega arith) m b _ e refl)
 
 
--- src/encode.rt:77:5
 pub loop-j-init : goal.loop-j-init
 unfolding encoded_pages bytes_of_pages
 loop-j-init c = (omega arith, c.requires.order, rw (sub_self, mul-zero), refl, rw sub_self)
 
--- src/encode.rt:78:19
 pub overflow_add-end : goal.overflow_add-end
 overflow_add-end c =
     let i = c.loop-j.invariant in
     let p = place _ _ _ _ _ _ i.0 c.loop-j-test.true i.2 c.requires.bytes_fit in
     omega (arith, p.end)
 
--- src/encode.rt:86:13
 pub slice_bounds-encode_page-end : goal.slice_bounds-encode_page-end
 slice_bounds-encode_page-end c =
     let i = c.loop-j.invariant in
     let p = place _ _ _ _ _ _ i.0 c.loop-j-test.true i.2 c.requires.bytes_fit in
     omega (arith, p.end, i.3)
 
--- src/encode.rt:77:5
 pub loop-j-preserved : goal.loop-j-preserved
 loop-j-preserved c =
     let i = c.loop-j.invariant in
     let p = place _ _ _ _ _ _ i.0 c.loop-j-test.true i.2 c.requires.bytes_fit in
     (omega arith, omega arith, p.next, c.buffer-1.given.1 ∙ i.3, one_more c.requires.list _ _ _ _ _ _ i.0 c.loop-j-test.true i.2 (omega (arith, p.end, i.3)) i.4 c.encode_page.ensures)
 
--- src/encode.rt:63:1
 pub returns : goal.returns
 returns c =
     let a = c.args in

@@ -20,6 +20,5 @@ use Rattle.finisher.proofs.EncodeLaws.{page_long, pages_more}
 abbrev pub invariant-loop-j : goal.invariant-loop-j
 invariant-loop-j l = (l.first ≤ l.j) × (l.j ≤ l.count) × (l.at ≡ l.page_size * (l.j - l.first)) × (length l.buffer ≡ length l.initial.buffer) × (l.buffer ≡ sets l.initial.buffer 0 (bytes_of_pages (encoded_pages l.page_size (table_list l.pages l.entries l.count l.listed) l.first (l.j - l.first))))
 
--- proposed from the loop's first test
 abbrev pub decreases-loop-j : goal.decreases-loop-j
 decreases-loop-j l = l.count - l.j

@@ -10,18 +10,14 @@ use native.Mathlib.Nat.{mul-le-mul_left}
 use native.Mathlib.Omega.{arith}
 use Rattle.free_list.proofs.BelowLaws.{below_all, below_inner, below-fragmented, below-head}
 
--- src/encode.rt:20:9
 pub returns-then-pages-j : goal.returns-then-pages-j
 returns-then-pages-j c = below_all _ _ _ _ c.if-pages-j.true
 
--- src/encode.rt:23:9
 pub returns-then-j-pages : goal.returns-then-j-pages
 returns-then-j-pages c = below_inner _ _ _ _ c.if-j-pages.true
 
--- src/encode.rt:26:9
 pub returns-then-is_fragmented : goal.returns-then-is_fragmented
 returns-then-is_fragmented c = below-fragmented _ _ _ _ (omega arith) (sym c.is_fragmented.ensures ∙ c.if-is_fragmented.true)
 
--- src/encode.rt:15:1
 pub returns : goal.returns
 returns c = below-head _ _ _ _ (omega arith) (sym c.is_fragmented.ensures ∙ c.if-is_fragmented.false)

@@ -25,26 +25,21 @@ goes : (c : goal.In-Todo-2) → let s = start (measured c) in
 goes c = judged_goes _ _ _ _ _ (sized (measured c)) (ap judged_outcome (sym c.work-1.given.1) ∙ c.judge.ensures)
 
 
--- src/finish.rt:49:11
 pub judge-requires : goal.judge-requires
 judge-requires c = sized c
 
--- src/finish.rt:60:13
 pub carry_out-requires : goal.carry_out-requires
 carry_out-requires c = goes c
 
--- src/finish.rt:63:33
 pub store_after-requires : goal.store_after-requires
 store_after-requires c =
     let g = goes c in
     (goes_limit g, omega (arith, goes_pages g, c.carry_out.auto))
 
--- src/finish.rt:37:1
 pub returns-in-Refused : goal.returns-in-Refused
 unfolding finish_into
 returns-in-Refused c = rw (← c.bytes-page_bytes.ensures, judged_refused _ _ _ _ c.in-Refused.ensures)
 
--- src/finish.rt:37:1
 pub returns-in-Todo : goal.returns-in-Todo
 unfolding finish_into
 returns-in-Todo c =

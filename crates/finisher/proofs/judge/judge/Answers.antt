@@ -65,16 +65,13 @@ pages_are c e =
     ∙ sym c.pages_fit.ensures ∙ e
 
 
--- src/judge.rt:47:9
 pub returns-then-not-state_fits : goal.returns-then-not-state_fits
 unfolding finish
 returns-then-not-state_fits c = rw (state-is c c.if-not-state_fits.true)
 
--- src/judge.rt:52:17
 pub overflow_sub-room : goal.overflow_sub-room
 overflow_sub-room c = (stands _ _ (stood c)).most
 
--- src/judge.rt:54:9
 pub returns-then-room-past : goal.returns-then-room-past
 unfolding finish
 returns-then-room-past c =
@@ -82,37 +79,30 @@ returns-then-room-past c =
     let past : max_bump < (result (start c)).bump = omega (arith, bump_raised (start c).args.freed.now (start c).requires st, c.least-popped.ensures, c.if-room-past.true, st.most) in
     rw (stood c, lt-leb _ _ past)
 
--- src/judge.rt:57:9
 pub measure-work-requires : goal.measure-work-requires
 measure-work-requires c = begun c
 
--- src/judge.rt:59:9
 pub returns-then-work : goal.returns-then-work
 unfolding finish
 returns-then-work c =
     let past : max_bump < (result (measured c)).bump = omega (arith, bump_is c, c.if-work.true) in
     rw (stood (tested c), lt-leb _ _ past)
 
--- src/judge.rt:63:9
 pub returns-then-bad-freed : goal.returns-then-bad-freed
 unfolding finish
 returns-then-bad-freed c = rw (stood (tested c), limit_is c c.if-work.false, bad-is c, ne_eqb _ _ c.if-bad-freed.true)
 
--- src/judge.rt:66:9
 pub returns-then-not-tables_fit : goal.returns-then-not-tables_fit
 unfolding finish
 returns-then-not-tables_fit c = rw (stood (tested c), limit_is c c.if-work.false, bad-is c, eq-eqb _ _ c.if-bad-freed.false, tables-are c c.if-not-tables_fit.true)
 
--- src/judge.rt:68:9
 pub pages_fit-requires : goal.pages_fit-requires
 pages_fit-requires c = omega (arith, page_least (measured c).requires)
 
--- src/judge.rt:69:9
 pub returns-then-not-pages_fit : goal.returns-then-not-pages_fit
 unfolding finish
 returns-then-not-pages_fit c = rw (stood (tested c), limit_is c c.if-work.false, bad-is c, eq-eqb _ _ c.if-bad-freed.false, tables-are c c.if-not-tables_fit.false, pages_are c c.if-not-pages_fit.true)
 
--- src/judge.rt:34:1
 pub returns : goal.returns
 unfolding finish
 returns c =

@@ -15,18 +15,14 @@ changed : (c : goal.Joined-else-popped-eq0) → eqb c.args.popped 0 && eqb (leng
 changed c = ⊎_elim (λ w. rw (eq-eqb _ _ w.0.true) w.1.false) (λ w. rw (ne_eqb _ _ w.false)) c.if-popped-eq0.branch
 
 
--- src/judge.rt:88:9
 pub returns-then-freed-eq0 : goal.returns-then-freed-eq0
 returns-then-freed-eq0 c = c.nothing_to_do.ensures ∙ same-work c.requires c.args.freed.now (rw (eq-eqb _ _ c.if-popped-eq0.true) c.if-freed-eq0.true)
 
--- src/judge.rt:91:9
 pub plan-planned-requires : goal.plan-planned-requires
 plan-planned-requires c = begun_planable c.requires
 
--- src/judge.rt:102:17
 pub overflow_add-count : goal.overflow_add-count
 overflow_add-count c = omega (arith, count_small c.requires c.args.freed.now (changed c) c.plan-planned.ensures.counted, c)
 
--- src/judge.rt:75:1
 pub returns : goal.returns
 returns c = rw c.one_less.ensures (changed-work c.requires c.args.freed.now (changed c) c.plan-planned.ensures.counted)

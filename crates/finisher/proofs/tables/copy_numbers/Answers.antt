@@ -8,17 +8,14 @@ use native.Mathlib.Omega.{arith}
 use lib.ListN.{length-set}
 use Rattle.finisher.proofs.TablesLaws.{copy_more}
 
--- src/tables.rt:31:5
 pub loop-i-init : goal.loop-i-init
 loop-i-init c = (omega arith, refl, refl)
 
--- src/tables.rt:31:5
 pub loop-i-preserved : goal.loop-i-preserved
 loop-i-preserved c =
     let inside : c.loop-i.i < length c.args.numbers.now = omega arith in
     (omega arith, simp length-set c.loop-i.invariant.1, copy_more _ _ _ _ _ inside c.loop-i.invariant.2)
 
--- src/tables.rt:26:1
 pub returns : goal.returns
 returns c =
     let e : c.loop-i.i ≡ c.args.n = omega arith in

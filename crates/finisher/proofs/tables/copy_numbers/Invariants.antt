@@ -11,6 +11,5 @@ use Rattle.finisher.proofs.TablesLaws.{copy_more}
 abbrev pub invariant-loop-i : goal.invariant-loop-i
 invariant-loop-i l = (l.i ≤ l.n) × (length l.table ≡ length l.initial.table) × (l.table ≡ sets l.initial.table l.at (take l.i l.numbers))
 
--- proposed from the loop's first test
 abbrev pub decreases-loop-i : goal.decreases-loop-i
 decreases-loop-i l = l.n - l.i

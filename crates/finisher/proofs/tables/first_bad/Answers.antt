@@ -7,22 +7,17 @@ use native.Mathlib.Nat.{zero-add}
 use native.Mathlib.Omega.{arith}
 use Rattle.finisher.proofs.TablesLaws.{bad_none, bad-zero, bad-past, bad-later}
 
--- src/tables.rt:12:5
 pub loop-i-init : goal.loop-i-init
 loop-i-init c = (omega arith, rw zero-add)
 
--- src/tables.rt:15:13
 pub returns-then-number-eq0 : goal.returns-then-number-eq0
 returns-then-number-eq0 c = bad-zero _ _ _ c.loop-i.invariant.1 c.loop-i-test.true c.if-number-eq0.true
 
--- src/tables.rt:18:13
 pub returns-then-limit-number : goal.returns-then-limit-number
 returns-then-limit-number c = bad-past _ _ _ c.loop-i.invariant.1 c.loop-i-test.true c.if-limit-number.true
 
--- src/tables.rt:12:5
 pub loop-i-preserved : goal.loop-i-preserved
 loop-i-preserved c = (omega arith, bad-later _ _ _ c.loop-i.invariant.1 c.loop-i-test.true c.if-number-eq0.false c.if-limit-number.false)
 
--- src/tables.rt:8:1
 pub returns : goal.returns
 returns c = bad_none _ _ _ c.loop-i.invariant.1 c.loop-i-test.false

@@ -10,6 +10,5 @@ use Rattle.finisher.proofs.TablesLaws.{bad_none, bad-zero, bad-past, bad-later}
 abbrev pub invariant-loop-i : goal.invariant-loop-i
 invariant-loop-i l = (l.i ≤ length l.freed) × (first_bad l.limit l.freed ≡ l.i + first_bad l.limit (drop l.i l.freed))
 
--- proposed from the loop's first test
 abbrev pub decreases-loop-i : goal.decreases-loop-i
 decreases-loop-i l = length l.freed - l.i

@@ -8,37 +8,29 @@ use native.Mathlib.Omega.{arith}
 use lib.ListN.{length-set}
 use Rattle.finisher.proofs.TablesLaws.{push_none, push_more}
 
--- src/tables.rt:44:5
 pub loop-page-init : goal.loop-page-init
 loop-page-init c = (c.requires.0, omega arith, refl, refl, push_none c.args.table.now c.args.pages.now c.args.count c.args.at)
 
--- src/tables.rt:46:20
 pub offset_bounds-pages-page : goal.offset_bounds-pages-page
 offset_bounds-pages-page c = omega arith
 
--- src/tables.rt:46:20
 pub bounds-pages-page : goal.bounds-pages-page
 bounds-pages-page c = omega (arith, c.requires)
 
--- src/tables.rt:46:9
 pub offset_bounds-table-i : goal.offset_bounds-table-i
 offset_bounds-table-i c = omega (arith, c.requires)
 
--- src/tables.rt:46:9
 pub bounds-table-i : goal.bounds-table-i
 bounds-table-i c = omega (arith, c.requires)
 
--- src/tables.rt:47:9
 pub overflow_add-i : goal.overflow_add-i
 overflow_add-i c = omega (arith, c.requires)
 
--- src/tables.rt:44:5
 pub loop-page-preserved : goal.loop-page-preserved
 loop-page-preserved c =
     let some : 0 < c.loop-page.page = omega arith in
     (omega arith, omega arith, omega arith, simp length-set c.loop-page.invariant.3, push_more _ _ _ _ _ _ _ some c.loop-page.invariant.1 c.requires.1 c.loop-page.invariant.2 c.loop-page.invariant.4)
 
--- src/tables.rt:38:1
 pub returns : goal.returns
 returns c =
     let e : c.loop-page.page ≡ c.args.low = omega arith in

@@ -11,6 +11,5 @@ use Rattle.finisher.proofs.TablesLaws.{push_none, push_more}
 abbrev pub invariant-loop-page : goal.invariant-loop-page
 invariant-loop-page l = (l.low ≤ l.page) × (l.page ≤ l.count) × (l.i + l.page ≡ l.at + l.count) × (length l.table ≡ length l.initial.table) × (l.table ≡ sets l.initial.table l.at (reverse (drop l.page (take l.count l.pages))))
 
--- proposed from the loop's first test
 abbrev pub decreases-loop-page : goal.decreases-loop-page
 decreases-loop-page l = l.page

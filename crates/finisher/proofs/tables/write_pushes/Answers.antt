@@ -7,7 +7,6 @@ use native.Mathlib.Omega.{arith}
 use lib.Seq.{length-take-le}
 use Rattle.finisher.proofs.TablesLaws.{pushes_ordinary, pushes_mended}
 
--- src/tables.rt:52:1
 pub returns-then-mended : goal.returns-then-mended
 returns-then-mended c =
     let a = c.args in
@@ -16,6 +15,5 @@ returns-then-mended c =
     rw c.if-mended.true
     (pushes_mended _ _ _ _ _ _ _ c.copy_numbers.ensures c.push_pages.ensures _ (omega arith) (omega (arith, c.requires.entries_fit)) c.swap.ensures)
 
--- src/tables.rt:52:1
 pub returns-else-mended : goal.returns-else-mended
 returns-else-mended c = rw c.if-mended.false (pushes_ordinary _ _ _ _ _ _ _ c.copy_numbers.ensures c.push_pages.ensures)

@@ -5,19 +5,16 @@ use mathlib.Core.Path.{◌∙◌}
 use borrow.Author.Tests.{le-leb, lt-leb}
 use Rattle.free_list.proofs.ListPagesLaws.{places_fit, take_least}
 
--- src/encode.rt:18:9
 pub returns-then-page-lt6 : goal.returns-then-page-lt6
 unfolding page_within
 returns-then-page-lt6 c = rw (lt-leb _ _ c.if-page-lt6.true)
 
--- src/encode.rt:21:5
 pub write_page-requires : goal.write_page-requires
 write_page-requires c =
     let long = c.if-page-lt6.false in
     let fits = places_fit _ long in
     (omega (arith, c.least-n.ensures), omega (arith, c.least-n.ensures, c.entry_places.ensures, fits.0), omega (arith, c.least-n.ensures, c.entry_places.ensures, fits.1))
 
--- src/encode.rt:14:1
 pub returns : goal.returns
 unfolding page_within
 returns c = c.write_page.ensures ∙ rw (le-leb _ _ c.if-page-lt6.false, c.least-n.ensures, c.entry_places.ensures, take_least c.args.entries.now _)

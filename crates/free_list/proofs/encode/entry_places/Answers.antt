@@ -2,7 +2,6 @@ use Rattle.free_list.specs.ListPages.{places}
 use Rattle.free_list.proofs.encode.entry_places.Goals as goal
 use Rattle.page.specs.PageSize.{capacity}
 
--- src/encode.rt:25:1
 pub returns : goal.returns
 unfolding places capacity
 returns c = c.least.ensures

@@ -4,7 +4,6 @@ use mathlib.Core.Path.{refl}
 use lib.Seq.{length-take-le}
 use Rattle.free_list.proofs.ListPagesLaws.{encoded}
 
--- src/encode.rt:33:1
 pub returns : goal.returns
 returns c =
     let a = c.args in

@@ -4,11 +4,9 @@ use mathlib.Core.Path.{refl}
 use native.Mathlib.Omega.{arith}
 use Rattle.page.proofs.PageSizeLaws.{page_least}
 
--- src/list_page.rt:41:6
 pub overflow_sub-result : goal.overflow_sub-result
 overflow_sub-result c = omega (arith, page_least c.requires)
 
--- src/list_page.rt:37:1
 pub returns : goal.returns
 unfolding capacity
 returns c = refl

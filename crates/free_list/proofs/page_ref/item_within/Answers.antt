@@ -3,14 +3,11 @@ use mathlib.Core.Path.{sym, ◌∙◌}
 use native.Mathlib.Omega.{arith}
 use Rattle.free_list.proofs.ListPagesLaws.{entry_within_lem, entry_past}
 
--- src/page_ref.rt:91:9
 pub returns-then-page-lt10 : goal.returns-then-page-lt10
 returns-then-page-lt10 c = sym (entry_past c.args.page.now c.args.i (omega arith))
 
--- src/page_ref.rt:94:9
 pub returns-then-page-i : goal.returns-then-page-i
 returns-then-page-i c = sym (entry_past c.args.page.now c.args.i (omega arith))
 
--- src/page_ref.rt:87:1
 pub returns : goal.returns
 returns c = c.item.ensures ∙ sym (entry_within_lem c.args.page.now c.args.i (omega arith))

@@ -2,10 +2,8 @@ use Rattle.free_list.proofs.page_ref.prev_within.Goals as goal
 use mathlib.Core.Path.{sym, ◌∙◌}
 use Rattle.free_list.proofs.ListPagesLaws.{prev_within_lem, prev_past}
 
--- src/page_ref.rt:73:9
 pub returns-then-page-lt6 : goal.returns-then-page-lt6
 returns-then-page-lt6 c = sym (prev_past _ c.if-page-lt6.true)
 
--- src/page_ref.rt:69:1
 pub returns : goal.returns
 returns c = c.prev_pn.ensures ∙ sym (prev_within_lem _ c.if-page-lt6.false)

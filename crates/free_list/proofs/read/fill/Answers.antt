@@ -41,41 +41,33 @@ module _ {s : ℕ} {store pages₀ entries₀ : List ℕ} {head left₀ : ℕ} {
         next = λ q written e before. rw (e, before, prev_within_lem b whole, count, bytes) this.next;
       }
 
--- src/read.rt:104:5
 pub loop-left-init : goal.loop-left-init
 loop-left-init c =
     let p = c.requires in
     record { size = p.size; readable = p.readable; count = p.count; pages_fit = p.pages_fit; entries_fit = p.entries_fit; pages_long = refl; entries_long = refl; pages_are = refl; entries_are = refl }
 
--- src/read.rt:105:13
 pub page_at-b-requires : goal.page_at-b-requires
 page_at-b-requires c =
     let f = c.loop-left.invariant in
     (f.size, (filled _ _ _ _ _ _ _ _ _ _ _ c.loop-left-test.true f).inside)
 
--- src/read.rt:108:9
 pub overflow_sub-at : goal.overflow_sub-at
 overflow_sub-at c = (the_page c.loop-left-test.true c.loop-left.invariant c.page_at-b.ensures _ c.header-h.ensures.1).enough
 
--- src/read.rt:109:9
 pub read_numbers-requires : goal.read_numbers-requires
 read_numbers-requires c =
     let f = c.loop-left.invariant in
     let p = the_page c.loop-left-test.true f c.page_at-b.ensures _ c.header-h.ensures.1 in
     (p.room, omega (arith, p.enough, f.entries_fit))
 
--- src/read.rt:111:9
 pub offset_bounds-pages-left : goal.offset_bounds-pages-left
 offset_bounds-pages-left c = omega (arith, c.loop-left.invariant.pages_fit)
 
--- src/read.rt:111:9
 pub bounds-pages-left : goal.bounds-pages-left
 bounds-pages-left c = omega (arith, c.loop-left.invariant.pages_fit, c.loop-left-test.true)
 
--- src/read.rt:104:5
 pub loop-left-preserved : goal.loop-left-preserved
 loop-left-preserved c = (the_page c.loop-left-test.true c.loop-left.invariant c.page_at-b.ensures _ c.header-h.ensures.1).next _ _ c.read_numbers.ensures c.header-h.ensures.0
 
--- src/read.rt:90:1
 pub returns : goal.returns
 returns c = filling_done c.loop-left.invariant (omega arith)

@@ -4,6 +4,5 @@ use Rattle.free_list.proofs.FillingLaws.{Filling}
 abbrev pub invariant-loop-left : goal.invariant-loop-left
 invariant-loop-left l = Filling l.page_size l.store l.initial.pages l.initial.entries l.head l.initial.left l.pages l.entries l.page l.left l.at
 
--- proposed from the loop's first test
 abbrev pub decreases-loop-left : goal.decreases-loop-left
 decreases-loop-left l = l.left

@@ -7,7 +7,6 @@ use Rattle.free_list.specs.Steps.{size_from, walked_size}
 use Rattle.free_list.proofs.ReadingLaws.{size_start}
 use Rattle.free_list.proofs.read.measure.Invariants.{goes_on}
 
--- src/read.rt:70:5
 pub loop-list-init : goal.loop-list-init
 loop-list-init c =
     let a = c.args in
@@ -18,23 +17,18 @@ loop-list-init c =
       later = omega arith;
     }
 
--- src/read.rt:71:15
 pub walk_down-requires : goal.walk_down-requires
 walk_down-requires c = record { size = c.requires; counted = c.page_count-count.ensures; fits = c.loop-list.invariant.fits; marked = c.loop-list.invariant.marked }
 
--- src/read.rt:73:17
 pub returns-in-Ended : goal.returns-in-Ended
 returns-in-Ended c = ap (walked_size _ _ _) (sym c.in-Ended.is) ∙ c.walk_down.ensures.size ∙ c.loop-list.invariant.same
 
--- src/read.rt:76:17
 pub returns-in-Stopped : goal.returns-in-Stopped
 returns-in-Stopped c = ap (walked_size _ _ _) (sym c.in-Stopped.is) ∙ c.walk_down.ensures.size ∙ c.loop-list.invariant.same
 
--- src/read.rt:70:5
 pub loop-list-smaller-then-due-next : goal.loop-list-smaller-then-due-next
 loop-list-smaller-then-due-next c = omega (arith, (goes_on c.in-More.is c.walk_down.ensures).fewer)
 
--- src/read.rt:70:5
 pub loop-list-preserved-then-due-next : goal.loop-list-preserved-then-due-next
 loop-list-preserved-then-due-next c =
     let kept = c.loop-list.invariant in
@@ -42,11 +36,9 @@ loop-list-preserved-then-due-next c =
     let deep : 2 ≤ c.in-More.next.pages = omega (arith, kept.later, c.if-due-next.true) in
     record { fits = n.fits; same = n.same ∙ kept.same; marked = inr (0, deep, refl); later = omega arith }
 
--- src/read.rt:70:5
 pub loop-list-smaller : goal.loop-list-smaller
 loop-list-smaller c = omega (arith, (goes_on c.in-More.is c.walk_down.ensures).fewer)
 
--- src/read.rt:70:5
 pub loop-list-preserved : goal.loop-list-preserved
 loop-list-preserved c =
     let kept = c.loop-list.invariant in

@@ -12,33 +12,27 @@ use Rattle.free_list.proofs.IntoLaws.{listed, into-refused, into-short-pages, in
 measured : (store : List ℕ) (loose : Bool) (head : ℕ) {s z : ℕ} {r q : ReadList} → s ≡ z → read_outcome r ≡ read_size s store loose head → r ≡ q → read_outcome q ≡ read_size z store loose head
 measured store loose head e m t = ap read_outcome (sym t) ∙ m ∙ rw e
 
--- src/read.rt:40:11
 pub measure-requires : goal.measure-requires
 measure-requires c = rw c.bytes-page_bytes.ensures (page-bytes _)
 
--- src/read.rt:44:17
 pub returns-then-pages-list : goal.returns-then-pages-list
 returns-then-pages-list c =
     let l = listed _ _ _ _ (measured _ _ _ c.bytes-page_bytes.ensures c.measure.ensures c.in-Read.is) in
     into-short-pages _ _ _ _ _ l c.if-pages-list.true
 
--- src/read.rt:47:17
 pub returns-then-entries-list : goal.returns-then-entries-list
 returns-then-entries-list c =
     let l = listed _ _ _ _ (measured _ _ _ c.bytes-page_bytes.ensures c.measure.ensures c.in-Read.is) in
     into-short-entries _ _ _ _ _ l c.if-pages-list.false c.if-entries-list.true
 
--- src/read.rt:49:13
 pub fill-requires : goal.fill-requires
 fill-requires c =
     let l = listed _ _ _ _ c.in-Read.ensures in
     record { size = rw c.bytes-page_bytes.ensures (page-bytes _); readable = l.readable; count = l.total; pages_fit = c.if-pages-list.false; entries_fit = c.if-entries-list.false }
 
--- src/read.rt:28:1
 pub returns-in-Refused : goal.returns-in-Refused
 returns-in-Refused c = into-refused _ _ _ _ _ (measured _ _ _ c.bytes-page_bytes.ensures c.measure.ensures c.in-Refused.is)
 
--- src/read.rt:28:1
 pub returns-else-entries-list : goal.returns-else-entries-list
 returns-else-entries-list c =
     let e = c.bytes-page_bytes.ensures in

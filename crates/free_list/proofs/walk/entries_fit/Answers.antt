@@ -6,20 +6,16 @@ use mathlib.Core.Path.{refl, sym, ap, ◌∙◌}
 use native.Mathlib.Omega.{arith}
 use Rattle.free_list.proofs.ReadingLaws.{entries_more}
 
--- src/walk.rt:75:5
 pub loop-i-init : goal.loop-i-init
 unfolding numbers_at all_entries_fit
 loop-i-init c = (omega arith, omega arith, refl)
 
--- src/walk.rt:76:9
 pub overflow_add-bad : goal.overflow_add-bad
 overflow_add-bad c = omega arith
 
--- src/walk.rt:75:5
 pub loop-i-preserved : goal.loop-i-preserved
 loop-i-preserved c = (omega arith, omega arith, entries_more _ _ _ _ _ _ c.item.ensures c.unfit-bad.ensures.0 c.loop-i.invariant.2)
 
--- src/walk.rt:69:1
 pub returns : goal.returns
 returns c =
     let e : c.loop-i.i ≡ c.args.n = omega arith in

@@ -6,6 +6,5 @@ use Rattle.free_list.proofs.walk.entries_fit.Given as goal
 abbrev pub invariant-loop-i : goal.invariant-loop-i
 invariant-loop-i l = (l.i ≤ l.n) × (l.bad ≤ l.i) × (all_entries_fit l.count (numbers_at 4 l.page 6 l.i) ≡ eqb l.bad 0)
 
--- proposed from the loop's first test
 abbrev pub decreases-loop-i : goal.decreases-loop-i
 decreases-loop-i l = l.n - l.i

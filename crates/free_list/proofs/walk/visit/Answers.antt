@@ -78,31 +78,26 @@ module _ {s : ℕ} {store : List ℕ} {loose : Bool} {count : ℕ} {w : Walk} {b
               };
         }
 
--- src/walk.rt:89:9
 pub returns-then-count-page : goal.returns-then-count-page
 returns-then-count-page c =
     let may = c.requires in
     record { size = size_past _ _ _ _ may.allowed may.some (omega (arith, may.counted, c.if-count-page.true)); advanced = tt }
 
--- src/walk.rt:95:9
 pub returns-then-not-count_fits : goal.returns-then-not-count_fits
 returns-then-not-count_fits c =
     let f = counted c.requires c.if-count-page.false c.page_at-b.ensures c.header-h.ensures.1 c.max_pns_per_page.ensures c.count_fits.ensures in
     record { size = count-unfit f c.if-not-count_fits.true; advanced = tt }
 
--- src/walk.rt:97:9
 pub entries_fit-requires : goal.entries_fit-requires
 entries_fit-requires c =
     let f = counted c.requires c.if-count-page.false c.page_at-b.ensures c.header-h.ensures.1 c.max_pns_per_page.ensures c.count_fits.ensures in
     (few f c.if-not-count_fits.false, room f c.if-not-count_fits.false)
 
--- src/walk.rt:98:9
 pub returns-then-not-entries_fit : goal.returns-then-not-entries_fit
 returns-then-not-entries_fit c =
     let f = counted c.requires c.if-count-page.false c.page_at-b.ensures c.header-h.ensures.1 c.max_pns_per_page.ensures c.count_fits.ensures in
     record { size = entry-unfit f c.if-not-count_fits.false c.entries_fit.ensures c.if-not-entries_fit.true; advanced = tt }
 
--- src/walk.rt:83:1
 pub returns : goal.returns
 returns c =
     let f = counted c.requires c.if-count-page.false c.page_at-b.ensures c.header-h.ensures.1 c.max_pns_per_page.ensures c.count_fits.ensures in

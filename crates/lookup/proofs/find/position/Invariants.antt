@@ -6,6 +6,5 @@ use lib.ListN.{drop}
 abbrev pub invariant-loop-i : goal.invariant-loop-i
 invariant-loop-i l = (l.i ≤ length l.numbers) × (first_of l.page l.numbers ≡ l.i + first_of l.page (drop l.i l.numbers))
 
--- proposed from the loop's first test
 abbrev pub decreases-loop-i : goal.decreases-loop-i
 decreases-loop-i l = length l.numbers - l.i

@@ -6,15 +6,12 @@ use native.Mathlib.Omega.{arith}
 use lib.ListN.{length-set}
 use Rattle.laws.proofs.SetsLaws.{copied_more}
 
--- src/copy.rt:17:5
 pub loop-i-init : goal.loop-i-init
 loop-i-init c = (omega arith, refl, refl)
 
--- src/copy.rt:17:5
 pub loop-i-preserved : goal.loop-i-preserved
 loop-i-preserved c = (omega arith, simp length-set c.loop-i.invariant.1, copied_more _ _ c.args.a.now c.args.from _ c.loop-i.i (omega arith) c.loop-i.invariant.2)
 
--- src/copy.rt:12:1
 pub returns : goal.returns
 returns c =
     let e : c.loop-i.i ≡ c.args.n = omega arith in

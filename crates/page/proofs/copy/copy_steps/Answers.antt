@@ -5,23 +5,18 @@ use native.Mathlib.Omega.{arith}
 use lib.Seq.{length-sets}
 use Rattle.laws.proofs.SetsLaws.{part_copied}
 
--- src/copy.rt:41:5
 pub loop-steps-init : goal.loop-steps-init
 loop-steps-init c = (omega arith, refl, refl)
 
--- src/copy.rt:41:15
 pub overflow_mul-steps : goal.overflow_mul-steps
 overflow_mul-steps c = omega arith
 
--- src/copy.rt:41:11
 pub overflow_sub-n : goal.overflow_sub-n
 overflow_sub-n c = omega arith
 
--- src/copy.rt:41:5
 pub loop-steps-smaller : goal.loop-steps-smaller
 loop-steps-smaller c = omega (arith, c.copy_turn-steps.ensures.0, c.least.ensures)
 
--- src/copy.rt:41:5
 pub loop-steps-preserved : goal.loop-steps-preserved
 loop-steps-preserved c =
     let x = c.args in
@@ -35,27 +30,21 @@ loop-steps-preserved c =
       rw more at (rw (← e.0) at e.1 ∙ part_copied x.b.now c.loop-steps.b x.a.now x.from x.to done (8 * k) (omega arith) c.loop-steps.invariant.2),
     )
 
--- src/copy.rt:45:20
 pub overflow_mul-steps-2 : goal.overflow_mul-steps-2
 overflow_mul-steps-2 c = omega arith
 
--- src/copy.rt:45:13
 pub overflow_add-from-2 : goal.overflow_add-from-2
 overflow_add-from-2 c = omega arith
 
--- src/copy.rt:45:46
 pub overflow_mul-steps-3 : goal.overflow_mul-steps-3
 overflow_mul-steps-3 c = omega arith
 
--- src/copy.rt:45:41
 pub overflow_add-to-2 : goal.overflow_add-to-2
 overflow_add-to-2 c = omega arith
 
--- src/copy.rt:45:5
 pub copy-requires : goal.copy-requires
 copy-requires c = (omega arith, omega arith)
 
--- src/copy.rt:36:1
 pub returns : goal.returns
 returns c =
     let x = c.args in

@@ -5,7 +5,6 @@ use mathlib.Core.Path.{◌∙◌, ap}
 use native.Mathlib.Omega.{arith}
 use Rattle.page.proofs.BytesLaws.{words_copied}
 
--- src/copy.rt:50:1
 pub returns : goal.returns
 returns c =
     let x = c.args in

@@ -3,7 +3,6 @@ use mathlib.Core.Path.{◌∙◌}
 use native.Mathlib.Omega.{arith}
 use Rattle.page.proofs.BytesLaws.{bytes_of_number_at}
 
--- src/copy.rt:24:1
 pub returns : goal.returns
 returns c =
     let a = c.args in

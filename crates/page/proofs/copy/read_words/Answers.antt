@@ -8,18 +8,15 @@ use native.Mathlib.Nat.{zero-add}
 use lib.ListN.{length-set}
 use Rattle.page.proofs.BytesLaws.{numbers_more}
 
--- src/copy.rt:65:5
 pub loop-i-init : goal.loop-i-init
 unfolding numbers_at
 loop-i-init c = (omega arith, refl, refl)
 
--- src/copy.rt:65:5
 pub loop-i-preserved : goal.loop-i-preserved
 loop-i-preserved c =
     let last : 0 + c.loop-i.i ≡ c.loop-i.i = zero-add c.loop-i.i in
     (omega arith, simp length-set c.loop-i.invariant.1, rw last at (numbers_more 8 _ _ _ _ 0 _ _ c.loop-i.invariant.2 c.read_u64.ensures))
 
--- src/copy.rt:60:1
 pub returns : goal.returns
 returns c =
     let x = c.args in

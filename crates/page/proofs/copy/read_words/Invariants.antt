@@ -6,6 +6,5 @@ use Rattle.page.proofs.copy.read_words.Given as goal
 abbrev pub invariant-loop-i : goal.invariant-loop-i
 invariant-loop-i l = (l.i ≤ l.n) × (length l.words ≡ length l.initial.words) × (l.words ≡ sets l.initial.words 0 (numbers_at 8 l.a l.from l.i))
 
--- proposed from the loop's first test
 abbrev pub decreases-loop-i : goal.decreases-loop-i
 decreases-loop-i l = l.n - l.i

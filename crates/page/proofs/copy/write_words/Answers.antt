@@ -8,12 +8,10 @@ use native.Mathlib.Omega.{arith}
 use lib.Seq.{length-sets}
 use Rattle.page.proofs.BytesLaws.{bytes_more}
 
--- src/copy.rt:77:5
 pub loop-steps-init : goal.loop-steps-init
 unfolding bytes_of_all
 loop-steps-init c = (omega arith, refl, refl)
 
--- src/copy.rt:77:5
 pub loop-steps-preserved : goal.loop-steps-preserved
 loop-steps-preserved c =
     let x = c.args in
@@ -21,7 +19,6 @@ loop-steps-preserved c =
     let e = c.write_u64.ensures in
     (omega arith, ap length e ∙ simp length-sets c.loop-steps.invariant.1, bytes_more 8 _ _ _ _ 0 _ _ inside c.loop-steps.invariant.2 (rw (zero-add c.loop-steps.steps) e))
 
--- src/copy.rt:72:1
 pub returns : goal.returns
 returns c =
     let e : c.loop-steps.steps ≡ c.args.n = omega arith in

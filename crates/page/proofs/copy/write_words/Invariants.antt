@@ -6,6 +6,5 @@ use Rattle.page.proofs.copy.write_words.Given as goal
 abbrev pub invariant-loop-steps : goal.invariant-loop-steps
 invariant-loop-steps l = (l.steps ≤ l.n) × (length l.b ≡ length l.initial.b) × (l.b ≡ sets l.initial.b l.to (bytes_of_all 8 (take l.steps l.words)))
 
--- proposed from the loop's first test
 abbrev pub decreases-loop-steps : goal.decreases-loop-steps
 decreases-loop-steps l = l.n - l.steps

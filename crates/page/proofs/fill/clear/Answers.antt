@@ -7,15 +7,12 @@ use native.Mathlib.Omega.{arith}
 use lib.ListN.{length-set}
 use Rattle.laws.proofs.SetsLaws.{zeros_more}
 
--- src/fill.rt:15:5
 pub loop-i-init : goal.loop-i-init
 loop-i-init c = (omega arith, omega arith, refl, rw (sub_self c.args.from))
 
--- src/fill.rt:15:5
 pub loop-i-preserved : goal.loop-i-preserved
 loop-i-preserved c = (omega arith, omega arith, simp length-set c.loop-i.invariant.2, zeros_more _ _ _ _ c.loop-i.invariant.0 c.loop-i.invariant.3)
 
--- src/fill.rt:10:1
 pub returns : goal.returns
 returns c =
     let e : c.loop-i.i - c.args.from ≡ c.args.to - c.args.from = omega arith in

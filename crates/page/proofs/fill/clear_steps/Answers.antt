@@ -7,23 +7,18 @@ use lib.Seq.{length-sets}
 use Rattle.laws.proofs.SetsLaws.{zeros_joined}
 use Rattle.page.proofs.BytesLaws.{bytes_of_zero}
 
--- src/fill.rt:30:5
 pub loop-steps-init : goal.loop-steps-init
 loop-steps-init c = (omega arith, refl, refl)
 
--- src/fill.rt:30:23
 pub overflow_mul-steps : goal.overflow_mul-steps
 overflow_mul-steps c = omega arith
 
--- src/fill.rt:30:11
 pub overflow_sub-to-in-loop-steps : goal.overflow_sub-to-in-loop-steps
 overflow_sub-to-in-loop-steps c = omega arith
 
--- src/fill.rt:30:5
 pub loop-steps-smaller : goal.loop-steps-smaller
 loop-steps-smaller c = omega arith
 
--- src/fill.rt:30:5
 pub loop-steps-preserved : goal.loop-steps-preserved
 loop-steps-preserved c =
     let x = c.args in
@@ -31,15 +26,12 @@ loop-steps-preserved c =
     let more : 8 * c.loop-steps.steps + 8 ≡ 8 * (c.loop-steps.steps + 1) = omega arith in
     (omega arith, ap length e ∙ simp length-sets c.loop-steps.invariant.1, e ∙ rw more at (zeros_joined x.b.now c.loop-steps.b x.from (8 * c.loop-steps.steps) 8 c.loop-steps.invariant.2))
 
--- src/fill.rt:34:21
 pub overflow_mul-steps-2 : goal.overflow_mul-steps-2
 overflow_mul-steps-2 c = omega arith
 
--- src/fill.rt:34:14
 pub overflow_add-from-2 : goal.overflow_add-from-2
 overflow_add-from-2 c = omega arith
 
--- src/fill.rt:22:1
 pub returns : goal.returns
 returns c =
     let x = c.args in

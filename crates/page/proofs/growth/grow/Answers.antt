@@ -6,12 +6,10 @@ use Rattle.refusal.specs.Outcome.{answer}
 use borrow.Author.Tests.{le-leb, lt-leb}
 use Rattle.page.specs.Growth.{max_bump, grown, rounded_up}
 
--- src/growth.rt:24:9
 pub returns-then-g-gt-MAX_BUMP : goal.returns-then-g-gt-MAX_BUMP
 unfolding grow
 returns-then-g-gt-MAX_BUMP c = rw (lt-leb c.args.page.0 max_bump (omega (arith, c.if-g-gt-MAX_BUMP.true)))
 
--- src/growth.rt:19:1
 pub returns : goal.returns
 unfolding grow grown rounded_up
 returns c = rw (le-leb _ _ c.if-g-gt-MAX_BUMP.false) (ap answer (omega arith))

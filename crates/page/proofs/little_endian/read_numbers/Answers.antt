@@ -7,16 +7,13 @@ use native.Mathlib.Omega.{arith}
 use lib.ListN.{length-set}
 use Rattle.page.proofs.BytesLaws.{numbers_more}
 
--- src/little_endian.rt:66:5
 pub loop-i-init : goal.loop-i-init
 unfolding numbers_at
 loop-i-init c = (omega arith, refl, refl)
 
--- src/little_endian.rt:66:5
 pub loop-i-preserved : goal.loop-i-preserved
 loop-i-preserved c = (omega arith, simp length-set c.loop-i.invariant.1, numbers_more 4 _ _ _ _ _ _ _ c.loop-i.invariant.2 c.read_u32.ensures)
 
--- src/little_endian.rt:61:1
 pub returns : goal.returns
 returns c =
     let e : c.loop-i.i ≡ c.args.n = omega arith in

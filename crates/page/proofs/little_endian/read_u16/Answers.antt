@@ -2,7 +2,6 @@ use Rattle.page.specs.Bytes.{number_at}
 use Rattle.page.proofs.little_endian.read_u16.Goals as goal
 use native.Mathlib.Omega.{arith}
 
--- src/little_endian.rt:15:1
 pub returns : goal.returns
 unfolding number_at
 returns c = omega arith

@@ -7,18 +7,15 @@ use native.Mathlib.Omega.{arith}
 use lib.Seq.{length-sets}
 use Rattle.page.proofs.BytesLaws.{bytes_more}
 
--- src/little_endian.rt:78:5
 pub loop-i-init : goal.loop-i-init
 unfolding bytes_of_all
 loop-i-init c = (omega arith, refl, refl)
 
--- src/little_endian.rt:78:5
 pub loop-i-preserved : goal.loop-i-preserved
 loop-i-preserved c =
     let inside : c.args.from + c.loop-i.i < length c.args.table.now = omega arith in
     (omega arith, ap length c.write_u32.ensures ∙ simp length-sets c.loop-i.invariant.1, bytes_more 4 _ _ _ _ _ _ _ inside c.loop-i.invariant.2 c.write_u32.ensures)
 
--- src/little_endian.rt:73:1
 pub returns : goal.returns
 returns c =
     let e : c.loop-i.i ≡ c.args.n = omega arith in

@@ -6,6 +6,5 @@ use Rattle.page.proofs.little_endian.write_numbers.Given as goal
 abbrev pub invariant-loop-i : goal.invariant-loop-i
 invariant-loop-i l = (l.i ≤ l.n) × (length l.b ≡ length l.initial.b) × (l.b ≡ sets l.initial.b l.at (bytes_of_all 4 (take l.i (drop l.from l.table))))
 
--- proposed from the loop's first test
 abbrev pub decreases-loop-i : goal.decreases-loop-i
 decreases-loop-i l = l.n - l.i

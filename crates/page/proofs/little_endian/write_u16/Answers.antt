@@ -2,7 +2,6 @@ use Rattle.page.specs.Bytes.{bytes_of}
 use Rattle.page.proofs.little_endian.write_u16.Goals as goal
 use native.Mathlib.Numerals.{add-one}
 
--- src/little_endian.rt:36:1
 pub returns : goal.returns
 unfolding bytes_of
 returns c = rw add-one

@@ -1,6 +1,5 @@
 use Rattle.page.proofs.little_endian.write_u32.Goals as goal
 use Rattle.page.proofs.BytesLaws.{written_halves}
 
--- src/little_endian.rt:44:1
 pub returns : goal.returns
 returns c = written_halves 2 _ _ _ _ _ c.write_u16.ensures c.write_u16-2.ensures

@@ -8,11 +8,9 @@ use Rattle.page.proofs.PagesLaws.{page_within_lem}
 within : (c : goal.Start) → c.args.page_size * c.args.page + c.args.page_size ≤ length c.args.store.now
 within c = page_within_lem _ _ _ (omega (arith, page_least c.requires.0)) c.requires.1
 
--- src/store.rt:29:5
 pub slice_bounds-result-end : goal.slice_bounds-result-end
 slice_bounds-result-end c = let h = within c in omega arith
 
--- src/store.rt:23:1
 pub returns : goal.returns
 unfolding page_at
 returns c =

@@ -3,16 +3,13 @@ use Rattle.page.proofs.store.page_count.Goals as goal
 use native.Mathlib.Omega.{arith}
 use Rattle.page.proofs.PageSizeLaws.{page_least}
 
--- src/store.rt:14:13
 pub nonzero_div-n : goal.nonzero_div-n
 nonzero_div-n c = let h = page_least c.requires in omega arith
 
--- src/store.rt:10:1
 pub returns-then-n : goal.returns-then-n
 unfolding page_count
 returns-then-n c = omega arith
 
--- src/store.rt:10:1
 pub returns-else-n : goal.returns-else-n
 unfolding page_count
 returns-else-n c = omega arith
