@@ -58,7 +58,9 @@ lent_behind s (w ∷ ws) before numbers rest more j whole a b =
     let first : ◌≡◌ {A = Write} (record { number = get_or list j 0; bytes = take s (drop (s * j) buffer) }) w = λ i. record { number = number i; bytes = bytes i } in
     let next = lent_behind s ws (before ++ w.bytes) (numbers ++ (w.number ∷ [])) rest more (suc j) (λ x m. whole x (Memᴰ.tail m))
     (omega (arith, length-append before w.bytes, mul-suc s j, whole w (Memᴰ.head refl))) (omega (arith, length-append numbers (w.number ∷ []))) in
-    ap₂ (λ (x : Write) (xs : List Write). x ∷ xs) first (simp append_assoc (simp append_assoc at next))
+    let joined = ap (λ (b : List ℕ). before ++ b) (append_assoc w.bytes (bytes_of_pages ws) rest) ∙ sym (append_assoc before w.bytes (bytes_of_pages ws ++ rest)) in
+    let listed = sym (append_assoc numbers (w.number ∷ []) (numbers_of ws ++ more)) in
+    ap₂ (λ (x : Write) (xs : List Write). x ∷ xs) first (ap₂ (λ (b ns : List ℕ). lent_pages s b ns (suc j) (length ws)) joined listed ∙ next)
 
 -- so many bytes
 length-pages : (s : ℕ) (ws : List Write) → Whole s ws → length (bytes_of_pages ws) ≡ s * length ws

@@ -45,10 +45,10 @@ one_page l bump n freed number entries bytes up t done encoded long told stands 
     rw (done, told, append-nil (encode_list_page standard_page_size 0 entries), encoded, page-stands bytes long, stands)
 
 -- a page of the value
-page_of : (i : ℕ) (bytes : List ℕ) → chunk standard_page_size value (numbers_from 101 16) i (length (replicate (standard_page_size + 1) old)) ≡ answer bytes
+page_of_lem : (i : ℕ) (bytes : List ℕ) → chunk standard_page_size value (numbers_from 101 16) i (length (replicate (standard_page_size + 1) old)) ≡ answer bytes
     → length bytes ≡ standard_page_size → write i ≡ writes_bytes bytes
 unfolding chunk_into
-page_of i bytes done long = rw (done, page-stands bytes long, long)
+page_of_lem i bytes done long = rw (done, page-stands bytes long, long)
 
 pub samples : Samples
 unfolding numbers_from number_at numbers_at bytes_of bytes_of_all capacity page_count page_at prev_of count_of entries_of encode_list_page count_fits all_entries_fit read_from list_from read_list_into is_shape is_fragmented entries_below entries_on head_of pages_for room_of pages_after pushed_after first_plan next_plan enough_room plan_of state_fits next_number next_recorded hand_out count_up new_list encoded_page encoded_pages carried_out finish_list first_bad finish_answer finished finishing bytes_of_pages finish_into grow grown rounded_up max_size raw_pages total_pages spare_room total_of page_total numbers_before numbers_on bytes_before bytes_on encode_value_page value_page chunk chunk_into
@@ -81,6 +81,6 @@ samples =
       total_4243403_less_would_do = refl;
       total_4243404_less_would_do = refl;
       total_largest = refl;
-      page_0_of_61381 = page_of 0 _ refl refl;
-      page_15_of_61381 = page_of 15 _ refl refl;
+      page_0_of_61381 = page_of_lem 0 _ refl refl;
+      page_15_of_61381 = page_of_lem 15 _ refl refl;
     }

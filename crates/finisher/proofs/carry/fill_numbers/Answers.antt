@@ -24,7 +24,6 @@ behind : (l : List ℕ) (x : ℕ) (m vs : List ℕ) → suc (length vs) ≤ leng
     → put_mid 1 (length (set l 0 x) - 1) (set l 0 x) m ≡ sets l 0 (x ∷ vs)
 behind l x m vs h e = ap (put_mid 1 (length (set l 0 x) - 1) (set l 0 x)) e ∙ part-sets (set l 0 x) 1 (length (set l 0 x) - 1) vs (omega (arith, length-set l 0 x)) (omega (arith, length-set l 0 x))
 
-
 -- there is a place for the first number
 place : {s : ℕ} {v : Save} {freed : List ℕ} {work : Work} {numbers : List ℕ} → Numberable s v freed work numbers → 1 ≤ length numbers
 place n = omega (arith, n.numbers_fit, written_are n.doable, written_some n.doable.save)

@@ -21,7 +21,6 @@ record Place (size first count j at long : ℕ) : Type 0 where
   end : at + size ≤ long
   next : at + size ≡ size * (j + 1 - first)
 
-
 place : (size first count j at long : ℕ) → first ≤ j → j < count → at ≡ size * (j - first) → size * (count - first) ≤ long → Place size first count j at long
 place size first count j at long h k e fits =
     let one : j + 1 - first ≡ suc (j - first) = omega arith in
@@ -29,13 +28,11 @@ place size first count j at long h k e fits =
     let within : j + 1 - first ≤ count - first = omega arith in
     record { end = omega (arith, mul-le-mul_left size within); next = omega arith }
 
-
 -- a part of n places
 part-long : (l : List ℕ) (at n : ℕ) → at + n ≤ length l → length (take (at + n - at) (drop at l)) ≡ n
 part-long l at n h =
     let e : at + n - at ≡ n = omega arith in
     rw e (length-take-le n (drop at l) (omega (arith, length-drop at l)))
-
 
 -- the buffer with one page more
 module _ {s : ℕ} {pages entries : List ℕ} {P L : ℕ} (l : Listed s pages entries P L) (first j at : ℕ) (m b x : List ℕ) where
@@ -52,7 +49,6 @@ module _ {s : ℕ} {pages entries : List ℕ} {P L : ℕ} (l : Listed s pages en
       let put : put_mid at (at + s - at) b x ≡ sets b (s * n) (encoded_page s (table_list pages entries P L) (first + n)).bytes =
       rw size (part-written b at s x long fits ∙ rw (this, ← f, here)) in
       put ∙ rw more (pages_more l first n (omega arith) m b _ e refl)
-
 
 pub loop-j-init : goal.loop-j-init
 unfolding encoded_pages bytes_of_pages
