@@ -5,7 +5,7 @@ use mathlib.Core.List.{List, [], ◌∷◌}
 use Rattle.refusal.specs.Outcome.{Outcome, answer, refused}
 use Rattle.refusal.specs.Effect.{nothing, Effect, effect, leaves, Called, called}
 use Rattle.allocator.specs.OpenSave.{Save, HandedOut, hand_out, Counters, counters, count_up}
-use Rattle.allocator.specs.Answers.{handed_outcome, counters_of, handed_effect}
+use Rattle.allocator.specs.Answers.{handed_outcome, counters_of}
 use Rattle.allocator.specs.declared.save.OpenSave.{OpenSave}
 use Rattle.allocator.specs.declared.allocate.HandedOut.{HandedOut as HandedOutEnum}
 use Rattle.calls.specs.Saves.{handed_values}
