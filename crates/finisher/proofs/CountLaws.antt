@@ -1,20 +1,19 @@
 -- Conservation: counted with repeats, the pages and entries of a list after a finish, and the entries handed out, are those before,
 -- the freed numbers, and what was taken past the bump.
-use Prim.Native.Nat.{ℕ, zero, suc, ◌+◌, ◌*◌, ◌-◌, ◌<◌, ◌≤◌}
-use native.Mathlib.Nat.{add-zero, sub_self, mul-le-mul_left}
+use Prim.Native.Nat.{ℕ, suc, ◌+◌, ◌*◌, ◌-◌, ◌<◌, ◌≤◌}
+use native.Mathlib.Nat.{sub_self, mul-le-mul_left}
 use native.Mathlib.Decide.{ℕ_discrete}
 use native.Mathlib.Omega.{arith}
-use mathlib.Core.Path.{◌≡◌, refl, ap, sym, ◌∙◌}
+use mathlib.Core.Path.{◌≡◌, refl, ap, ◌∙◌}
 use mathlib.Core.Bool.{Bool, true, false, cond}
-use mathlib.Core.List.{List, [], ◌∷◌, ◌++◌, reverse, reverse-cons}
-use lib.Dec.{leb, eqb}
-use lib.ListN.{length, get_or, take, drop, take-append-drop}
-use lib.Seq.{take-suc}
+use mathlib.Core.List.{List, [], ◌∷◌, ◌++◌, reverse}
+use lib.Dec.{leb}
+use lib.ListN.{length, get_or, take, drop}
 use borrow.Author.Tests.{leb-true, leb-false}
 use Rattle.laws.specs.Counting.{count, numbers_from}
 use Rattle.laws.proofs.CountLaws.{count_none, count-append, count-cons, count-reverse, count_split, count_last, count_numbers}
 use Rattle.laws.proofs.Tests.{cond_cases}
-use Rattle.free_list.specs.Shape.{FreeList, is_shape}
+use Rattle.free_list.specs.Shape.{FreeList}
 use Rattle.preallocate.specs.Plan.{Plan, swap_top, take_entry, take_last, take_bump, plan_of}
 use Rattle.finisher.specs.Finish.{new_list}
 use Rattle.finisher.specs.Theorems.{Conserved}

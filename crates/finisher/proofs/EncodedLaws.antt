@@ -1,10 +1,10 @@
 -- The pages of a list as encoded: each has as many bytes as a page, and is decoded again.
-use Prim.Native.Nat.{ℕ, ◌+◌, ◌*◌, ◌-◌, ◌^◌, ◌<◌, ◌≤◌}
+use Prim.Native.Nat.{ℕ, ◌+◌, ◌-◌, ◌^◌, ◌<◌, ◌≤◌}
 use native.Mathlib.Decide.{dec_lt}
 use native.Mathlib.Omega.{arith}
 use mathlib.Core.Path.{◌≡◌}
 use mathlib.Core.Bool.{true}
-use mathlib.Core.List.{List, Memᴰ}
+use mathlib.Core.List.{Memᴰ}
 use lib.Dec.{eqb}
 use lib.ListN.{length, get_or, drop, length-take}
 use Rattle.laws.proofs.Tests.{cond_cases}

@@ -1,5 +1,5 @@
 -- The list that a finish makes reads back from the store that its pages were written to.
-use Prim.Native.Nat.{ℕ, zero, suc, ◌+◌, ◌*◌, ◌-◌, ◌^◌, min, ◌<◌, ◌≤◌}
+use Prim.Native.Nat.{ℕ, suc, ◌+◌, ◌*◌, ◌-◌, ◌^◌, min, ◌<◌, ◌≤◌}
 use native.Mathlib.Decide.{dec_lt}
 use native.Mathlib.Omega.{arith}
 use mathlib.Core.Path.{◌≡◌, refl, ap, sym, ◌∙◌, subst}
@@ -29,7 +29,7 @@ use Rattle.free_list.proofs.StoredLaws.{read_stored}
 use Rattle.free_list.proofs.ReadListLaws.{stored-read, head_read}
 use Rattle.preallocate.specs.Plan.{Plan, plan_of}
 use Rattle.preallocate.proofs.PlanLaws.{plan_kept}
-use Rattle.allocator.specs.OpenSave.{Save, list_of, bumped, state_fits}
+use Rattle.allocator.specs.OpenSave.{list_of, bumped, state_fits}
 use Rattle.finisher.specs.Finish.{new_list, encoded_page, carried_out, Finished, finish_list, first_bad, finished, finish}
 use Rattle.finisher.specs.Theorems.{DistinctBelow, FinishReadsBack}
 use Rattle.finisher.proofs.NewShapeLaws.{new_shape, length_pages_planned}

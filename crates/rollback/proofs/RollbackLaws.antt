@@ -1,7 +1,7 @@
 -- Demand 3: what a cut leaves of the first store is all that its readers look at.
 -- Each write keeps it so (`Left`), as it goes to a free number or over a list page as that was; the readers look only at list pages and at
 -- pages that are not free.
-use Prim.Native.Nat.{ℕ, ◌+◌, ◌<◌, ◌≤◌}
+use Prim.Native.Nat.{ℕ, ◌<◌, ◌≤◌}
 use mathlib.Core.Path.{◌≡◌, refl, sym, ◌∙◌, ap, subst}
 use mathlib.Core.Logic.{inl, inr}
 use mathlib.Core.List.Memᴰ

@@ -1,10 +1,3 @@
-use Rattle.std.proofs.Common.{rules, ◌≡◌, ℕ, ◌+◌, ◌-◌, ◌*◌, ◌<◌, ◌≤◌, length, ◌/◌, ◌%◌, Bool, true, false, nat_eq, nat_lt, List, [], ◌∷◌, ◌++◌, slice_index_or, slice_set, bit_and, bit_or, Fits, w8, w32, w64, Bor, MutBor}
-use Rattle.std.proofs.lemmas.List.Edits.{sets}
-use Rattle.refusal.specs.Effect.{before, after}
-use Rattle.free_list.specs.Reading.{tables}
-use Rattle.finisher.specs.Finish.{finish_lent}
-use Rattle.finisher.specs.Answers.{save_with}
-use Rattle.finisher.specs.Steps.{Goes, Doable, Numberable, Filled, plan_for, numbers_for, new_tables, carried}
 use Rattle.finisher.proofs.carry.carry_out.Goals as goal
 use native.Mathlib.Omega.{arith}
 use Rattle.finisher.proofs.CarryLaws.{bytes_enough, numbers_enough, goes_doable, goes_same, numbers_filled, numbers_carried, encodable, buffer-carried}

@@ -1,10 +1,7 @@
-use Rattle.std.proofs.Common.{rules, ◌≡◌, ℕ, ◌+◌, ◌-◌, ◌*◌, ◌<◌, ◌≤◌, length, ◌/◌, ◌%◌, Bool, true, false, nat_eq, nat_lt, List, [], ◌∷◌, ◌++◌, slice_index_or, slice_set, bit_and, bit_or, Fits, w8, w32, w64, Bor, MutBor}
+use Rattle.std.proofs.Common.{◌≡◌, ℕ, ◌-◌, ◌≤◌, length, List, ◌∷◌}
 use Rattle.std.proofs.lemmas.List.Edits.{sets}
-use Rattle.refusal.specs.Effect.{before, after}
-use Rattle.free_list.specs.Reading.{tables}
-use Rattle.finisher.specs.Finish.{finish_lent}
 use Rattle.finisher.specs.Answers.{save_with}
-use Rattle.finisher.specs.Steps.{Goes, Doable, Numberable, Filled, plan_for, numbers_for, new_tables, carried}
+use Rattle.finisher.specs.Steps.{Numberable, plan_for}
 use Rattle.finisher.proofs.carry.fill_numbers.Goals as goal
 use Prim.Native.Nat.{suc}
 use mathlib.Core.Path.{ap, sym, ◌∙◌}
@@ -12,7 +9,6 @@ use native.Mathlib.Omega.{arith}
 use borrow.Rule.Slice.PartMut.{put_mid}
 use lib.ListN.{take, drop, set, length-set}
 use Rattle.laws.proofs.SetsLaws.{part-sets}
-use Rattle.preallocate.specs.Plan.{Plan}
 use Rattle.preallocate.specs.declared.turns.Plan.{Plan as Counts}
 use Rattle.allocator.specs.OpenSave.{Save}
 use Rattle.finisher.specs.declared.judge.Work.{Work}

@@ -1,17 +1,11 @@
-use Rattle.std.proofs.Common.{rules, ◌≡◌, ◌*◌, ◌-◌, ◌≤◌, ◌<◌, length, ℕ, ◌+◌, ◌/◌, ◌%◌, Bool, true, false, nat_eq, nat_lt, List, [], ◌∷◌, ◌++◌, slice_index_or, slice_set, bit_and, bit_or, Fits, w8, w32, w64, Bor, MutBor}
-use Rattle.std.proofs.lemmas.List.Edits.{sets}
-use Rattle.free_list.specs.Shape.{previous, entries_below}
-use Rattle.preallocate.specs.Counts.{table_list}
-use Rattle.finisher.specs.Finish.{encoded_page}
-use Rattle.finisher.specs.Steps.{Listed, EncodableList, bytes_from}
+use Rattle.std.proofs.Common.{◌-◌, ◌≤◌, length}
 use Rattle.finisher.proofs.encode.encode_page.Goals as goal
 use mathlib.Core.Path.{◌∙◌}
 use native.Mathlib.Omega.{arith}
 use lib.ListN.{take, drop, length-take}
 use Rattle.free_list.proofs.ListPagesLaws.{page_within_lem}
 use Rattle.page.specs.PageSize.{capacity}
-use Rattle.free_list.proofs.BelowLaws.{OnPage}
-use Rattle.finisher.proofs.EncodeLaws.{bounds, page-found, page-encoded}
+use Rattle.finisher.proofs.EncodeLaws.{page-found, page-encoded}
 
 pub offset_bounds-entries-from : goal.offset_bounds-entries-from
 offset_bounds-entries-from c = omega (arith, page-found c.requires.0 _ c.requires.1 c.max_pns_per_page-c.ensures c.entries_below-from.ensures c.entries_below-to.ensures, c.requires.0.entries_fit)

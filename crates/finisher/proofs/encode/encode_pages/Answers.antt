@@ -1,9 +1,8 @@
-use Rattle.std.proofs.Common.{rules, ◌≡◌, ◌*◌, ◌-◌, ◌≤◌, ◌<◌, length, ℕ, ◌+◌, ◌/◌, ◌%◌, Bool, true, false, nat_eq, nat_lt, List, [], ◌∷◌, ◌++◌, slice_index_or, slice_set, bit_and, bit_or, Fits, w8, w32, w64, Bor, MutBor}
+use Rattle.std.proofs.Common.{◌≡◌, ◌*◌, ◌-◌, ◌≤◌, ◌<◌, length, ℕ, ◌+◌, List}
 use Rattle.std.proofs.lemmas.List.Edits.{sets}
-use Rattle.free_list.specs.Shape.{previous, entries_below}
 use Rattle.preallocate.specs.Counts.{table_list}
 use Rattle.finisher.specs.Finish.{encoded_page}
-use Rattle.finisher.specs.Steps.{Listed, EncodableList, bytes_from}
+use Rattle.finisher.specs.Steps.{Listed}
 use Rattle.finisher.proofs.encode.encode_pages.Goals as goal
 use Prim.Native.Nat.{suc}
 use mathlib.Core.Path.{refl, ap, ◌∙◌}

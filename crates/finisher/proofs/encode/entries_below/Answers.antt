@@ -1,12 +1,5 @@
-use Rattle.std.proofs.Common.{rules, ◌≡◌, ◌*◌, ◌-◌, ◌≤◌, ◌<◌, length, ℕ, ◌+◌, ◌/◌, ◌%◌, Bool, true, false, nat_eq, nat_lt, List, [], ◌∷◌, ◌++◌, slice_index_or, slice_set, bit_and, bit_or, Fits, w8, w32, w64, Bor, MutBor}
-use Rattle.std.proofs.lemmas.List.Edits.{sets}
-use Rattle.free_list.specs.Shape.{previous, entries_below}
-use Rattle.preallocate.specs.Counts.{table_list}
-use Rattle.finisher.specs.Finish.{encoded_page}
-use Rattle.finisher.specs.Steps.{Listed, EncodableList, bytes_from}
 use Rattle.finisher.proofs.encode.entries_below.Goals as goal
 use mathlib.Core.Path.{sym, ◌∙◌}
-use native.Mathlib.Nat.{mul-le-mul_left}
 use native.Mathlib.Omega.{arith}
 use Rattle.free_list.proofs.BelowLaws.{below_all, below_inner, below-fragmented, below-head}
 

@@ -1,7 +1,3 @@
-use Rattle.std.proofs.Common.{rules, ◌≡◌, reverse, ◌+◌, ◌-◌, ◌<◌, ◌≤◌, length, get_or, set, take, drop, ℕ, ◌*◌, ◌/◌, ◌%◌, Bool, true, false, nat_eq, nat_lt, List, [], ◌∷◌, ◌++◌, bit_and, bit_or, Fits, w8, w32, w64, Bor, MutBor}
-use Rattle.std.proofs.lemmas.List.Edits.{sets}
-use Rattle.finisher.specs.Finish.{first_bad}
-use Rattle.finisher.specs.Steps.{push_list, Pushable}
 use Rattle.finisher.proofs.tables.first_bad.Goals as goal
 use native.Mathlib.Nat.{zero-add}
 use native.Mathlib.Omega.{arith}

@@ -1,7 +1,5 @@
-use Rattle.std.proofs.Common.{rules, ◌≡◌, reverse, ◌+◌, ◌-◌, ◌<◌, ◌≤◌, length, get_or, set, take, drop, ℕ, ◌*◌, ◌/◌, ◌%◌, Bool, true, false, nat_eq, nat_lt, List, [], ◌∷◌, ◌++◌, bit_and, bit_or, Fits, w8, w32, w64, Bor, MutBor}
+use Rattle.std.proofs.Common.{◌≡◌, reverse, ◌<◌, take, drop}
 use Rattle.std.proofs.lemmas.List.Edits.{sets}
-use Rattle.finisher.specs.Finish.{first_bad}
-use Rattle.finisher.specs.Steps.{push_list, Pushable}
 use Rattle.finisher.proofs.tables.push_pages.Goals as goal
 use mathlib.Core.Path.{refl, ap, ◌∙◌}
 use native.Mathlib.Omega.{arith}
