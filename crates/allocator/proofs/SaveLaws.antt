@@ -33,9 +33,9 @@ shape_none c P L e = rw e (only (eqb P 0))
     only false = refl
 
 module _ (c P L : ℕ) (pos : 2 ≤ c) (some : L ≡ 0 → ⊥) where
-  shape-some : is_shape c P L ≡ leb (c * (P - 1)) L && leb L (c * P)
+  shape_some : is_shape c P L ≡ leb (c * (P - 1)) L && leb L (c * P)
   unfolding is_shape
-  shape-some = rw (ne_eqb L 0 some, le-leb 1 L (omega arith)) (only (eqb P 0))
+  shape_some = rw (ne_eqb L 0 some, le-leb 1 L (omega arith)) (only (eqb P 0))
     where
       only : (b : Bool) → (b && false) || (leb (c * (P - 1)) L && leb L (c * P)) ≡ leb (c * (P - 1)) L && leb L (c * P)
       only true = refl
@@ -45,13 +45,13 @@ module _ (c P L : ℕ) (pos : 2 ≤ c) (some : L ≡ 0 → ⊥) where
   pub shape_few : P ≤ (L - 1) / c → false ≡ is_shape c P L
   shape_few h =
       let less : c * P < L = omega (arith, mul-le-mul_left c h, div-mul-le_self (L - 1) c) in
-      sym (shape-some ∙ rw (lt-leb L (c * P) less) (and-false_right (leb (c * (P - 1)) L)))
+      sym (shape_some ∙ rw (lt-leb L (c * P) less) (and-false_right (leb (c * (P - 1)) L)))
 
   -- enough pages, and not more than one too many
   pub shape_enough : (L - 1) / c < P → leb (P - 1) (L / c) ≡ is_shape c P L
   shape_enough h =
       let most : L ≤ c * P = omega (arith, mul-le-mul_left c h, lt-div-mul-add {a = L - 1} {b = c} (omega arith)) in
-      sym (shape-some ∙ rw (le-leb L (c * P) most) (and-true_right (leb (c * (P - 1)) L)) ∙ same_test (leb (c * (P - 1)) L) (leb (P - 1) (L / c)) down up)
+      sym (shape_some ∙ rw (le-leb L (c * P) most) (and-true_right (leb (c * (P - 1)) L)) ∙ same_test (leb (c * (P - 1)) L) (leb (P - 1) (L / c)) down up)
     where
       down : leb (c * (P - 1)) L ≡ true → leb (P - 1) (L / c) ≡ true
       down e = le-leb (P - 1) (L / c) ((le-div_iff_mul-le {k = c} {x = P - 1} {y = L} (omega arith)).1 (rw mul_comm (leb-true (c * (P - 1)) L e)))

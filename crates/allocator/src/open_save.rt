@@ -1,7 +1,6 @@
 // The open save in its last form: what is counted up is lent by `&mut`, and counts up where it stands.
 //
-// `OpenSave::hand_out` and `hand_out`, which lends a save of its own, are proved by hand. Whoever calls `hand_out` needs no such proof: its
-// parameters are plain.
+// `hand_out` has the open save by value, and lends it to `OpenSave::hand_out`.
 ghost use Rattle.std.specs.Prelude.{◌≡◌};
 ghost use Rattle.refusal.specs.Effect.{effect};
 ghost use Rattle.page.specs.PageSize.{page_bytes};

@@ -19,12 +19,12 @@ counted out e = called (with_counters e.lent) out (effect e.outcome nothing)
 
 handed_out : (s : ℕ) (v : Save) (out : List ℕ) → counted out (count_up s v) ≡ called handed_values out (effect (hand_out s v) nothing)
 unfolding count_up
-handed_out s v out = by-outcome (hand_out s v)
+handed_out s v out = by_outcome (hand_out s v)
   where
-    by-outcome : (o : Outcome HandedOut)
+    by_outcome : (o : Outcome HandedOut)
         → counted out (leaves (λ (h : HandedOut). h.number) (λ (h : HandedOut). counters h.save) (counters v) o) ≡ called handed_values out (effect o nothing)
-    by-outcome (answer h) = refl
-    by-outcome (refused number values) = refl
+    by_outcome (answer h) = refl
+    by_outcome (refused number values) = refl
 
 -- the code answered r, which is q, and left the open save o
 pub hands_out : (s : ℕ) (v : Save) (out : List ℕ) (o : OpenSave) {r q : HandedOutEnum} → effect (handed_outcome r) (counters_of o) ≡ count_up s v → r ≡ q

@@ -78,11 +78,11 @@ module _ {s : ℕ} {v : Save} {freed : List ℕ} (h : Changed s v freed) where
         tight = planned_few (capacity s) (list_of v) k freed (bumped v) two shape;
       }
 
-  kept-fits : plan.kept ≤ length (list_of v).pages
-  kept-fits = omega (arith, bounds.kept, many)
+  kept_fits : plan.kept ≤ length (list_of v).pages
+  kept_fits = omega (arith, bounds.kept, many)
 
-  left-fits : plan.left ≤ length (list_of v).entries
-  left-fits = omega (arith, bounds.left, all)
+  left_fits : plan.left ≤ length (list_of v).entries
+  left_fits = omega (arith, bounds.left, all)
 
   is : made ≡ carried_out s (list_of v) plan
   is = finished_changed standing freed h.changed
@@ -125,11 +125,11 @@ module _ {s : ℕ} {v : Save} {freed : List ℕ} (h : Changed s v freed) where
   numbers_are =
       let m = new_list (list_of v) plan in
       rw is
-      (numbers_of_pages s m (plan.kept - 1) (length m.pages - (plan.kept - 1)) (omega (arith, length_new_pages (list_of v) plan kept-fits left-fits))
-      ∙ new_written (list_of v) plan kept-fits left-fits)
+      (numbers_of_pages s m (plan.kept - 1) (length m.pages - (plan.kept - 1)) (omega (arith, length_new_pages (list_of v) plan kept_fits left_fits))
+      ∙ new_written (list_of v) plan kept_fits left_fits)
 
   pub numbers_count : length (new_numbers plan) ≡ length made.written
-  numbers_count = omega (arith, length_new_numbers (list_of v) plan kept-fits left-fits, written_count, pages_count)
+  numbers_count = omega (arith, length_new_numbers (list_of v) plan kept_fits left_fits, written_count, pages_count)
 
   -- the push list, as it is written
   pub pushes : Pushes (capacity s) (list_of v) freed (eqb (popped v) 0 && is_fragmented (capacity s) v.P v.L)
@@ -199,8 +199,8 @@ module _ {s : ℕ} {v : Save} {freed : List ℕ} {work : Work} (h : Doable s v f
   planable = rw (pops_are, bump_is) (save_planable h.save.size (standing h.save) (omega (arith, h.limit, bump_raised freed h.save.size (standing h.save))))
 
   -- its new pages are entries, or numbers below the bump, which was judged: so they have 32 bits
-  fresh-fits : ((i : ℕ) → get_or v.entry_table i 0 < 2 ^ 32) → (n : ℕ) → Memᴰ n (plan_for s v freed).fresh → n < 2 ^ 32
-  fresh-fits fits n m =
+  fresh_fits : ((i : ℕ) → get_or v.entry_table i 0 < 2 ^ 32) → (n : ℕ) → Memᴰ n (plan_for s v freed).fresh → n < 2 ^ 32
+  fresh_fits fits n m =
       go ((plan_fresh (capacity s) (list_of v) (popped v) freed (bumped v) (omega (arith, h.save.size.two_entries)) (shape h.save)).news n m)
     where
       go : Taken (list_of v) (popped v) (bumped v) (plan_for s v freed) n → n < 2 ^ 32
@@ -209,10 +209,10 @@ module _ {s : ℕ} {v : Save} {freed : List ℕ} {work : Work} (h : Doable s v f
 
   pub named_again : ((i : ℕ) → get_or v.entry_table i 0 < 2 ^ 32) → {before : List ℕ} {r : Counts} {after : List ℕ}
       → Makes (plan_of (capacity s) (list_of v) work.popped freed work.bump) before r after → after ≡ sets before 0 (plan_for s v freed).fresh
-  named_again fits {before} m = (rw (pops_are, bump_is) at m).named ∙ ap (sets before 0) (all_kept_lem (plan_for s v freed).fresh (fresh-fits fits))
+  named_again fits {before} m = (rw (pops_are, bump_is) at m).named ∙ ap (sets before 0) (all_kept_lem (plan_for s v freed).fresh (fresh_fits fits))
 
-  pub kept-is : work.plan.pages ≡ (plan_for s v freed).kept
-  kept-is = ap (λ (p : Counts). p.pages) plan_is
+  pub kept_is : work.plan.pages ≡ (plan_for s v freed).kept
+  kept_is = ap (λ (p : Counts). p.pages) plan_is
 
   left_is : work.plan.entries ≡ (plan_for s v freed).left
   left_is = ap (λ (p : Counts). p.entries) plan_is
@@ -250,11 +250,11 @@ module _ {s : ℕ} {v : Save} {freed : List ℕ} {work : Work} (h : Doable s v f
 
   -- the numbers of the pages written have room behind the pages kept
   pub pages_room : work.plan.pages - 1 + work.written ≤ length v.page_table
-  pages_room = omega (arith, kept-is, written_are, written_count h.save, pages_count h.save, h.pages_fit)
+  pages_room = omega (arith, kept_is, written_are, written_count h.save, pages_count h.save, h.pages_fit)
 
   pub pages_carried : (numbers : List ℕ) {first : ℕ} {r : List ℕ} → first ≡ work.plan.pages - 1 → take work.written numbers ≡ new_numbers (plan_for s v freed)
       → r ≡ sets v.page_table first (take work.written numbers) → r ≡ (new_tables s v freed).pages
-  pages_carried numbers f n e = e ∙ rw (f, n, kept-is) (sym (pages_written h.save))
+  pages_carried numbers f n e = e ∙ rw (f, n, kept_is) (sym (pages_written h.save))
 
   -- the number list
   pub numbers_filled : (numbers : List ℕ) {r : List ℕ} → work.written ≤ length numbers → r ≡ sets numbers 0 (new_numbers (plan_for s v freed))
@@ -267,8 +267,8 @@ module _ {s : ℕ} {v : Save} {freed : List ℕ} {work : Work} (h : Doable s v f
 
   -- the pages, from the tables with the new list
   module _ {t : ListTables} (is-new : t ≡ new_tables s v freed) {first : ℕ} (f : first ≡ work.plan.pages - 1) where
-    list-is : table_list t.pages t.entries work.pages work.entries ≡ (finished s v freed).list
-    list-is =
+    list_is : table_list t.pages t.entries work.pages work.entries ≡ (finished s v freed).list
+    list_is =
         let m = (finished s v freed).list in
         let p : take work.pages t.pages ≡ m.pages = rw (is-new, pages_are) (take-sets v.page_table m.pages h.pages_fit) in
         let q : take work.entries t.entries ≡ m.entries = rw (is-new, entries_are) (take-sets v.entry_table m.entries h.entries_fit) in
@@ -280,14 +280,14 @@ module _ {s : ℕ} {v : Save} {freed : List ℕ} {work : Work} (h : Doable s v f
           list =
               rw (pages_are, entries_are)
               (new_listed h.save t.pages t.entries (rw (is-new, length-sets v.page_table) h.pages_fit) (rw (is-new, length-sets v.entry_table) h.entries_fit));
-          order = omega (arith, f, kept-is, pages_are, pages_count h.save);
-          bytes_fit = rw (f, kept-is, pages_are, ← written_count h.save, ← written_are) fit;
+          order = omega (arith, f, kept_is, pages_are, pages_count h.save);
+          bytes_fit = rw (f, kept_is, pages_are, ← written_count h.save, ← written_are) fit;
         }
 
     pub buffer-carried : (buffer : List ℕ) {r : List ℕ} → r ≡ sets buffer 0 (bytes_from s (table_list t.pages t.entries work.pages work.entries) first (work.pages - first))
         → r ≡ sets buffer 0 (bytes_of_pages (finished s v freed).written)
     buffer-carried buffer e =
-        e ∙ ap (λ (ws : List Write). sets buffer 0 (bytes_of_pages ws)) (rw (list-is, f, kept-is, pages_are) (sym (written_is h.save)))
+        e ∙ ap (λ (ws : List Write). sets buffer 0 (bytes_of_pages ws)) (rw (list_is, f, kept_is, pages_are) (sym (written_is h.save)))
 
 -- ---- a finish that answers
 
@@ -304,8 +304,8 @@ module _ {s : ℕ} {v : Save} {freed : List ℕ} {work : Work} {buffer numbers :
   pub numbers_enough : work.written ≤ length numbers
   numbers_enough = omega (arith, work-written, did.1.numbers)
 
-  changed-of : unchanged v freed ≡ false → Changed s v freed
-  changed-of e = record { size = g.size; state = did.0.state; changed = e }
+  changed_of : unchanged v freed ≡ false → Changed s v freed
+  changed_of e = record { size = g.size; state = did.0.state; changed = e }
 
   -- where some page is written the list changes
   pub goes_doable : (work.written ≡ 0 → ⊥) → Doable s v freed work
@@ -315,7 +315,7 @@ module _ {s : ℕ} {v : Save} {freed : List ℕ} {work : Work} {buffer numbers :
       go true e = absurd (some (work-written ∙ rw (finished_same did.0.stands freed e)))
       go false e =
           record {
-            save = changed-of e;
+            save = changed_of e;
             is = g.is;
             limit = did.0.limit;
             pages_fit = did.1.pages;
@@ -337,4 +337,4 @@ module _ {s : ℕ} {v : Save} {freed : List ℕ} {work : Work} {buffer numbers :
           l ≡ stored l (finished s v freed)
       go true e =
           rw (finished_same did.0.stands freed e, filled v.page_table v.P did.0.stands.pages_fit, filled v.entry_table v.L did.0.stands.entries_fit)
-      go false e = absurd (omega (arith, written_some (changed-of e), work-written))
+      go false e = absurd (omega (arith, written_some (changed_of e), work-written))

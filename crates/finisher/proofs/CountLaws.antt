@@ -51,23 +51,23 @@ module _ (c : ℕ) (l : FreeList) (k bump x : ℕ) where
     pub whole : t.left ≡ c * t.kept → after t ≡ before t
     pub partial : (t.left ≡ c * t.kept → ⊥) → after t + count x (t.top ∷ []) ≡ before t
 
-  no-bump : count x (numbers_from bump (bump - bump)) ≡ 0
+  no_bump : count x (numbers_from bump (bump - bump)) ≡ 0
   unfolding numbers_from
-  no-bump = rw sub_self (count_none x)
+  no_bump = rw sub_self (count_none x)
 
-  none-taken : length l.entries ≤ k → count x (take 0 l.entries) + count x (drop (length l.entries - k) l.entries) ≡ count x l.entries
-  none-taken h =
+  none_taken : length l.entries ≤ k → count x (take 0 l.entries) + count x (drop (length l.entries - k) l.entries) ≡ count x l.entries
+  none_taken h =
       ap (λ (n : ℕ). count x (take n l.entries) + count x (drop (length l.entries - k) l.entries)) none
       ∙ count_split x (length l.entries - k) l.entries
     where
       none : 0 ≡ length l.entries - k
       none = omega arith
 
-  one-taken : k < length l.entries
+  one_taken : k < length l.entries
       → count x (take (length l.entries - suc k) l.entries) + count x (get_or l.entries (length l.entries - suc k) 0 ∷ [])
       + count x (drop (length l.entries - k) l.entries)
       ≡ count x l.entries
-  one-taken h =
+  one_taken h =
       omega (
         arith,
         count_last x (length l.entries - suc k) (length l.entries - k) l.entries (omega arith) (omega arith),
@@ -77,21 +77,21 @@ module _ (c : ℕ) (l : FreeList) (k bump x : ℕ) where
   counted-first : (freed : List ℕ) → FirstCases c l k freed bump Counted
   counted-first freed =
       record {
-        none = λ h e z. record { past = omega arith; whole = λ _. omega (arith, none-taken h, no-bump, count_none x); partial = λ ne. absurd (ne (omega arith)) };
+        none = λ h e z. record { past = omega arith; whole = λ _. omega (arith, none_taken h, no_bump, count_none x); partial = λ ne. absurd (ne (omega arith)) };
         mending = λ e some f two all z. record {
           past = omega arith;
           whole = λ y. absurd (omega arith);
-          partial = λ ne. omega (arith, one-taken (omega arith), no-bump, count_none x);
+          partial = λ ne. omega (arith, one_taken (omega arith), no_bump, count_none x);
         };
         emptying = λ lt e one most y. record {
           past = omega arith;
-          whole = λ _. omega (arith, one-taken lt, no-bump);
+          whole = λ _. omega (arith, one_taken lt, no_bump);
           partial = λ ne. absurd (ne y);
         };
         renumbering = λ lt e one most fits. record {
           past = omega arith;
           whole = λ y. absurd (omega arith);
-          partial = λ ne. omega (arith, one-taken lt, no-bump, count_none x);
+          partial = λ ne. omega (arith, one_taken lt, no_bump, count_none x);
         };
       }
 
@@ -99,8 +99,8 @@ module _ (c : ℕ) (l : FreeList) (k bump x : ℕ) where
     pop : 1 ≤ t.left → count x (take t.left l.entries) ≡ count x (take (t.left - 1) l.entries) + count x (get_or l.entries (t.left - 1) 0 ∷ [])
     pop some = count_last x (t.left - 1) t.left l.entries (omega arith) (omega (arith, b.within))
 
-    counted-swap : 1 ≤ t.left → t.left ≡ c * t.kept → Counted (swap_top c l t)
-    counted-swap some y =
+    counted_swap : 1 ≤ t.left → t.left ≡ c * t.kept → Counted (swap_top c l t)
+    counted_swap some y =
         record {
           past = f.past;
           whole = λ z. absurd (omega arith);
@@ -115,8 +115,8 @@ module _ (c : ℕ) (l : FreeList) (k bump x : ℕ) where
           partial = λ _. omega (arith, pop some, f.partial ne, count-append x t.fresh (get_or l.entries (t.left - 1) 0 ∷ []));
         }
 
-    counted-last : 1 ≤ t.left → (t.left ≡ c * t.kept → ⊥) → t.left - 1 ≡ c * (t.kept - 1) → Counted (take_last c l t)
-    counted-last some ne y =
+    counted_last : 1 ≤ t.left → (t.left ≡ c * t.kept → ⊥) → t.left - 1 ≡ c * (t.kept - 1) → Counted (take_last c l t)
+    counted_last some ne y =
         record {
           past = f.past;
           whole = λ _. omega (
@@ -129,8 +129,8 @@ module _ (c : ℕ) (l : FreeList) (k bump x : ℕ) where
           partial = λ z. absurd (z y);
         }
 
-    counted-bump : Counted (take_bump c l t)
-    counted-bump =
+    counted_bump : Counted (take_bump c l t)
+    counted_bump =
         record {
           past = omega (arith, f.past);
           whole = λ y. omega (arith, f.whole y, count-append x t.fresh (t.bump ∷ []), bumps);
@@ -145,13 +145,13 @@ module _ (c : ℕ) (l : FreeList) (k bump x : ℕ) where
             ∙ count_numbers x bump (t.bump - bump)
             ∙ ap (λ (n : ℕ). count x (numbers_from bump (t.bump - bump)) + count x (n ∷ [])) last
 
-  counted-turns : 1 ≤ c → (freed : List ℕ) → TurnCases c l k freed bump Counted
-  counted-turns pos freed =
+  counted_turns : 1 ≤ c → (freed : List ℕ) → TurnCases c l k freed bump Counted
+  counted_turns pos freed =
       record {
-        swapping = λ t b f one y. counted-swap t b f (omega (arith, mul-le-mul_left c one)) y;
+        swapping = λ t b f one y. counted_swap t b f (omega (arith, mul-le-mul_left c one)) y;
         taking = λ t b f some one ne. counted-take t b f some ne;
-        taking-last = λ t b f some one ne y. counted-last t b f some ne y;
-        bumping = λ t b f. counted-bump t b f;
+        taking-last = λ t b f some one ne y. counted_last t b f some ne y;
+        bumping = λ t b f. counted_bump t b f;
       }
 
 -- ---- the new list
@@ -174,19 +174,19 @@ module _ (x c : ℕ) (l : FreeList) (freed : List ℕ) (mended : Bool) (low : �
       ))
       (λ h. let no : t.kept ≡ 0 = omega (arith, leb-false 1 t.kept h) in rw no))
 
-  kept-partial : (t.left ≡ c * t.kept → ⊥) → count x kept_pages ≡ count x (take low l.pages) + count x (t.top ∷ [])
-  kept-partial ne =
+  kept_partial : (t.left ≡ c * t.kept → ⊥) → count x kept_pages ≡ count x (take low l.pages) + count x (t.top ∷ [])
+  kept_partial ne =
       cond_cases (λ (ns : List ℕ). count x ns ≡ count x (take low l.pages) + count x (t.top ∷ [])) (leb 1 t.kept) (take (t.kept - 1) l.pages ++ (t.top ∷ [])) []
       (λ h. let last : t.kept - 1 ≡ low = omega (arith, p.partial ne) in
       count-append x (take (t.kept - 1) l.pages) (t.top ∷ []) ∙ ap (λ (n : ℕ). count x (take n l.pages) + count x (t.top ∷ [])) last)
       (λ h. absurd (omega (arith, leb-false 1 t.kept h, p.partial ne)))
 
   -- the new list has, beside the old pages and the freed numbers, what the plan left and took
-  new-counted : (k bump : ℕ) → Counted c l k bump x t
+  new_counted : (k bump : ℕ) → Counted c l k bump x t
       → count x (new_list l t).pages + count x (new_list l t).entries + count x (drop (length l.entries - k) l.entries)
       ≡ count x l.pages + count x l.entries + count x freed + count x (numbers_from bump (t.bump - bump))
   unfolding new_list
-  new-counted k bump f = go (ℕ_discrete t.left (c * t.kept))
+  new_counted k bump f = go (ℕ_discrete t.left (c * t.kept))
     where
       go : Dec (t.left ≡ c * t.kept)
           → count x (kept_pages ++ t.fresh) + count x (take t.left l.entries ++ t.pushed) + count x (drop (length l.entries - k) l.entries)
@@ -207,7 +207,7 @@ module _ (x c : ℕ) (l : FreeList) (freed : List ℕ) (mended : Bool) (low : �
             arith,
             count-append x kept_pages t.fresh,
             count-append x (take t.left l.entries) t.pushed,
-            kept-partial ne,
+            kept_partial ne,
             f.partial ne,
             ap (count x) p.list,
             count-push_list x freed mended l.pages low,
@@ -216,5 +216,5 @@ module _ (x c : ℕ) (l : FreeList) (freed : List ℕ) (mended : Bool) (low : �
 
 pub conserved : (c : ℕ) → Conserved c
 conserved c pos l k freed bump shape x =
-    new-counted x c l freed (mends c l k) _ (plan_of c l k freed bump) (plan-pushes c l k freed bump pos shape) k bump
-    (plan_run c l k freed bump (Counted c l k bump x) pos shape (counted-first c l k bump x freed) (counted-turns c l k bump x pos freed)).1
+    new_counted x c l freed (mends c l k) _ (plan_of c l k freed bump) (plan-pushes c l k freed bump pos shape) k bump
+    (plan_run c l k freed bump (Counted c l k bump x) pos shape (counted-first c l k bump x freed) (counted_turns c l k bump x pos freed)).1

@@ -38,28 +38,28 @@ module _ {s : ℕ} {pages entries : List ℕ} {P L : ℕ} (l : Listed s pages en
     pub page_of : OnPage (capacity s) L (entries_below (capacity s) P L j) (entries_below (capacity s) P L (j + 1))
     page_of = on_page (capacity s) P L l.size.two_entries l.some l.most l.least j inside
 
-    entries-of : entries_on (capacity s) (table_list pages entries P L) j
+    entries_of_lem : entries_on (capacity s) (table_list pages entries P L) j
         ≡ take (entries_below (capacity s) P L (j + 1) - entries_below (capacity s) P L j) (drop (entries_below (capacity s) P L j) entries)
     unfolding entries_on
-    entries-of = rw (many, all) (part_of_first (entries_below (capacity s) P L j) L entries (entries_below (capacity s) P L (j + 1) - entries_below (capacity s) P L j) (omega (arith, page_of)))
+    entries_of_lem = rw (many, all) (part_of_first (entries_below (capacity s) P L j) L entries (entries_below (capacity s) P L (j + 1) - entries_below (capacity s) P L j) (omega (arith, page_of)))
 
-    previous-of : previous (take P pages) j ≡ previous pages j
-    previous-of = ap (cond (eqb j 0) 0) (get_or-take P pages (j - 1) 0 (omega arith))
+    previous_of : previous (take P pages) j ≡ previous pages j
+    previous_of = ap (cond (eqb j 0) 0) (get_or-take P pages (j - 1) 0 (omega arith))
 
     -- the same of numbers that were found so
     pub page-found : {m from to : ℕ} → m ≡ capacity s → from ≡ entries_below m P L j → to ≡ entries_below m P L (j + 1) → OnPage (capacity s) L from to
     page-found {m} {from} {to} e f t = rw (f, t, e) page_of
 
     -- the page as encoded from the tables
-    pub page-encoded : (m from to prev : ℕ) (b : List ℕ) → m ≡ capacity s → from ≡ entries_below m P L j → to ≡ entries_below m P L (j + 1) → prev ≡ previous pages j
+    pub page_encoded : (m from to prev : ℕ) (b : List ℕ) → m ≡ capacity s → from ≡ entries_below m P L j → to ≡ entries_below m P L (j + 1) → prev ≡ previous pages j
         → b ≡ encode_list_page s prev (take (to - from) (drop from entries)) → b ≡ (encoded_page s (table_list pages entries P L) j).bytes
     unfolding encoded_page
-    page-encoded m from to prev b cap f t p e = e ∙ rw (f, t, cap, p, entries-of, previous-of)
+    page_encoded m from to prev b cap f t p e = e ∙ rw (f, t, cap, p, entries_of_lem, previous_of)
 
     -- it is a whole page
     pub page_long : length (encoded_page s (table_list pages entries P L) j).bytes ≡ s
     unfolding encoded_page capacity
-    page_long = rw entries-of (length_encoded s _ _ (fits (entries_below (capacity s) P L (j + 1) - entries_below (capacity s) P L j) (omega (arith, page_of))))
+    page_long = rw entries_of_lem (length_encoded s _ _ (fits (entries_below (capacity s) P L (j + 1) - entries_below (capacity s) P L j) (omega (arith, page_of))))
       where
         fits : (n : ℕ) → n ≤ capacity s → 6 + 4 * length (take n (drop (entries_below (capacity s) P L j) entries)) ≤ s
         fits n h = omega (arith, length-take n (drop (entries_below (capacity s) P L j) entries), page_least l.size)

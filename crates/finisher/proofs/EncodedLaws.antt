@@ -32,9 +32,9 @@ module _ (s : ℕ) (size : IsPageSize s) (m : FreeList) (shape : is_shape (capac
   abbrev cap : ℕ
   cap = capacity s
 
-  entries-on-few : (j : ℕ) → j < length m.pages → length (entries_on cap m j) ≤ cap
+  entries_on_few : (j : ℕ) → j < length m.pages → length (entries_on cap m j) ≤ cap
   unfolding entries_on
-  entries-on-few j h =
+  entries_on_few j h =
       let b = shaped cap (length m.pages) (length m.entries) shape in
       let some : 1 ≤ length m.entries = some_of (dec_lt 0 (length m.entries)) in
       let o = on_page cap (length m.pages) (length m.entries) size.two_entries some b.most b.under j h in
@@ -48,26 +48,26 @@ module _ (s : ℕ) (size : IsPageSize s) (m : FreeList) (shape : is_shape (capac
   -- a page has s bytes
   pub encoded_long : (j : ℕ) → j < length m.pages → length (encoded_page s m j).bytes ≡ s
   unfolding encoded_page
-  encoded_long j h = length_encoded s _ (entries_on cap m j) (page-room (length (entries_on cap m j)) size (entries-on-few j h))
+  encoded_long j h = length_encoded s _ (entries_on cap m j) (page-room (length (entries_on cap m j)) size (entries_on_few j h))
 
   -- it is decoded again
   module _ (j : ℕ) (h : j < length m.pages) (pages_fit : (n : ℕ) → Memᴰ n m.pages → n < 2 ^ 32) (entries_fit : (n : ℕ) → Memᴰ n m.entries → n < 2 ^ 32) where
-    prev-fits : previous m.pages j < 2 ^ 32
-    prev-fits = cond_cases (λ (n : ℕ). n < 2 ^ 32) (eqb j 0) 0 (get_or m.pages (j - 1) 0) (λ _. omega arith) (λ _. pages_fit _ (get_d-mem m.pages (j - 1) (omega arith)))
+    prev_fits : previous m.pages j < 2 ^ 32
+    prev_fits = cond_cases (λ (n : ℕ). n < 2 ^ 32) (eqb j 0) 0 (get_or m.pages (j - 1) 0) (λ _. omega arith) (λ _. pages_fit _ (get_d-mem m.pages (j - 1) (omega arith)))
 
     count_small : length (entries_on cap m j) < 2 ^ 16
-    count_small = small (length (entries_on cap m j)) (entries-on-few j h)
+    count_small = small (length (entries_on cap m j)) (entries_on_few j h)
       where
         small : (n : ℕ) → n ≤ capacity s → n < 2 ^ 16
         small n h = page_few s n size h
 
-    entries-small : (n : ℕ) → Memᴰ n (entries_on cap m j) → n < 2 ^ 32
-    entries-small n e = entries_fit n (on_mem cap m j n e)
+    entries_small : (n : ℕ) → Memᴰ n (entries_on cap m j) → n < 2 ^ 32
+    entries_small n e = entries_fit n (on_mem cap m j n e)
 
     pub decoded-before : prev_of (encoded_page s m j).bytes ≡ previous m.pages j
     unfolding encoded_page
-    decoded-before = prev-encoded s (previous m.pages j) (entries_on cap m j) prev-fits count_small entries-small
+    decoded-before = prev-encoded s (previous m.pages j) (entries_on cap m j) prev_fits count_small entries_small
 
     pub decoded-entries : entries_of (encoded_page s m j).bytes ≡ entries_on cap m j
     unfolding encoded_page
-    decoded-entries = entries-encoded s (previous m.pages j) (entries_on cap m j) prev-fits count_small entries-small
+    decoded-entries = entries-encoded s (previous m.pages j) (entries_on cap m j) prev_fits count_small entries_small

@@ -22,17 +22,17 @@ module _ {s : ℕ} (size : IsPageSize s) {v : Save} {freed : List ℕ} {f : Fini
   pops : popped v ≡ min v.handed (length (list_of v).entries)
   pops = rw (entries_listed done.stands)
 
-  new-list-shape : is_shape (capacity s) (length f.list.pages) (length f.list.entries) ≡ true
+  new_list_shape : is_shape (capacity s) (length f.list.pages) (length f.list.entries) ≡ true
   unfolding carried_out
-  new-list-shape =
+  new_list_shape =
       finish_cases done refl (λ (g : Finished). is_shape (capacity s) (length g.list.pages) (length g.list.entries) ≡ true) (popped v) pops (λ _ _. list_shape done.stands)
       (λ changed. new_shape (capacity s) (list_of v) (popped v) freed (bumped v) size.two_entries (list_shape done.stands) (omega (arith, pops)) changed)
 
-  numbers-conserved : (x : ℕ)
+  numbers_conserved : (x : ℕ)
       → count x f.list.pages + count x f.list.entries + count x (drop (v.L - popped v) (list_of v).entries)
       ≡ count x (list_of v).pages + count x (list_of v).entries + count x freed + count x (numbers_from (bumped v) (f.bump - bumped v))
   unfolding carried_out numbers_from
-  numbers-conserved x =
+  numbers_conserved x =
       finish_cases done refl
       (λ (g : Finished). count x g.list.pages + count x g.list.entries + count x (drop (v.L - popped v) (list_of v).entries)
       ≡ count x (list_of v).pages + count x (list_of v).entries + count x freed + count x (numbers_from (bumped v) (g.bump - bumped v)))
@@ -48,12 +48,12 @@ module _ {s : ℕ} (size : IsPageSize s) {v : Save} {freed : List ℕ} {f : Fini
           ≡ count x (list_of v).pages + count x (list_of v).entries + count x freed + count x (numbers_from (bumped v) (bumped v - bumped v))
       same none no-freed =
           let left : length (drop (v.L - popped v) (list_of v).entries) ≡ 0 = omega (arith, length-drop (v.L - popped v) (list_of v).entries, entries_listed done.stands) in
-          let no-bump : bumped v - bumped v ≡ 0 = omega arith in
-          let raised : count x (numbers_from (bumped v) (bumped v - bumped v)) ≡ 0 = rw no-bump (count_none x) in
+          let no_bump : bumped v - bumped v ≡ 0 = omega arith in
+          let raised : count x (numbers_from (bumped v) (bumped v - bumped v)) ≡ 0 = rw no_bump (count_none x) in
           omega (arith, empty freed no-freed, empty (drop (v.L - popped v) (list_of v).entries) left, raised)
 
 pub finish_shape : {s : ℕ} → IsPageSize s → FinishShape s
-finish_shape {s} size v freed room f e = new-list-shape size (succeeds s v freed room f e).0
+finish_shape {s} size v freed room f e = new_list_shape size (succeeds s v freed room f e).0
 
 pub finish_conserves : {s : ℕ} → IsPageSize s → FinishConserves s
-finish_conserves {s} size v freed room f e x = numbers-conserved size (succeeds s v freed room f e).0 x
+finish_conserves {s} size v freed room f e x = numbers_conserved size (succeeds s v freed room f e).0 x

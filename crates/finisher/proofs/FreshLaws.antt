@@ -58,15 +58,15 @@ module _ (c : ℕ) (l : FreeList) (k bump : ℕ) where
         go (inl h) = f n h
         go (inr h) = only (Memᴰ.cases_cons h)
 
-    two-more : (xs : List ℕ) (x y : ℕ) → ((n : ℕ) → Memᴰ n xs → Q n) → Q x → Q y → (n : ℕ) → Memᴰ n (xs ++ (x ∷ y ∷ [])) → Q n
-    two-more xs x y f q r n m = go (Memᴰ.append_cases xs m)
+    two_more : (xs : List ℕ) (x y : ℕ) → ((n : ℕ) → Memᴰ n xs → Q n) → Q x → Q y → (n : ℕ) → Memᴰ n (xs ++ (x ∷ y ∷ [])) → Q n
+    two_more xs x y f q r n m = go (Memᴰ.append_cases xs m)
       where
         go : Memᴰ n xs ⊎ Memᴰ n (x ∷ y ∷ []) → Q n
         go (inl h) = f n h
         go (inr h) = one_more (x ∷ []) y (one_more [] x (λ n h. absurd (Memᴰ.not-nil h)) q) r n h
 
-  fresh-first : (freed : List ℕ) → FirstCases c l k freed bump (Fresh c l k bump)
-  fresh-first freed =
+  fresh_first : (freed : List ℕ) → FirstCases c l k freed bump (Fresh c l k bump)
+  fresh_first freed =
       record {
         none = λ h e z. record { news = λ n m. absurd (Memᴰ.not-nil m); past = omega arith; top = λ ne. absurd (ne (omega arith)) };
         mending = λ e some f two all z. record {
@@ -87,46 +87,46 @@ module _ (c : ℕ) (l : FreeList) (k bump : ℕ) where
       }
 
   module _ (t : Plan) (b : Bounded c l k t) (f : Fresh c l k bump t) where
-    fresh-swap : 1 ≤ t.left → Fresh c l k bump (swap_top c l t)
-    fresh-swap some =
+    fresh_swap : 1 ≤ t.left → Fresh c l k bump (swap_top c l t)
+    fresh_swap some =
         record {
           news = λ n m. taken_more t (swap_top c l t) (omega arith) (omega arith) n (f.news n m);
           past = f.past;
           top = λ ne. popped t b some;
         }
 
-    fresh-take : 1 ≤ t.left → (t.left ≡ c * t.kept → ⊥) → Fresh c l k bump (take_entry c l t)
-    fresh-take some ne =
+    fresh_take : 1 ≤ t.left → (t.left ≡ c * t.kept → ⊥) → Fresh c l k bump (take_entry c l t)
+    fresh_take some ne =
         record {
           news = one_more (Taken l k bump (take_entry c l t)) t.fresh _ (λ n m. taken_more t (take_entry c l t) (omega arith) (omega arith) n (f.news n m)) (inl (popped t b some));
           past = f.past;
           top = λ _. between_more t.left (t.left - 1) t.top (omega arith) (f.top ne);
         }
 
-    fresh-last : 1 ≤ t.left → (t.left ≡ c * t.kept → ⊥) → t.left - 1 ≡ c * (t.kept - 1) → Fresh c l k bump (take_last c l t)
-    fresh-last some ne x =
+    fresh_last : 1 ≤ t.left → (t.left ≡ c * t.kept → ⊥) → t.left - 1 ≡ c * (t.kept - 1) → Fresh c l k bump (take_last c l t)
+    fresh_last some ne x =
         record {
-          news = two-more (Taken l k bump (take_last c l t)) t.fresh _ _ (λ n m. taken_more t (take_last c l t) (omega arith) (omega arith) n (f.news n m)) (inl (popped t b some))
+          news = two_more (Taken l k bump (take_last c l t)) t.fresh _ _ (λ n m. taken_more t (take_last c l t) (omega arith) (omega arith) n (f.news n m)) (inl (popped t b some))
               (inl (between_more t.left (t.left - 1) t.top (omega arith) (f.top ne)));
           past = f.past;
           top = λ y. absurd (y x);
         }
 
-    fresh-bump : Fresh c l k bump (take_bump c l t)
-    fresh-bump =
+    fresh_bump : Fresh c l k bump (take_bump c l t)
+    fresh_bump =
         record {
           news = one_more (Taken l k bump (take_bump c l t)) t.fresh _ (λ n m. taken_more t (take_bump c l t) (omega arith) (omega arith) n (f.news n m)) (inr (f.past, omega arith));
           past = omega (arith, f.past);
           top = f.top;
         }
 
-  fresh-turns : 1 ≤ c → (freed : List ℕ) → TurnCases c l k freed bump (Fresh c l k bump)
-  fresh-turns pos freed =
+  fresh_turns : 1 ≤ c → (freed : List ℕ) → TurnCases c l k freed bump (Fresh c l k bump)
+  fresh_turns pos freed =
       record {
-        swapping = λ t b f one x. fresh-swap t b f (omega (arith, mul-le-mul_left c one));
-        taking = λ t b f some one ne. fresh-take t b f some ne;
-        taking-last = λ t b f some one ne x. fresh-last t b f some ne x;
-        bumping = λ t b f. fresh-bump t b f;
+        swapping = λ t b f one x. fresh_swap t b f (omega (arith, mul-le-mul_left c one));
+        taking = λ t b f some one ne. fresh_take t b f some ne;
+        taking-last = λ t b f some one ne x. fresh_last t b f some ne x;
+        bumping = λ t b f. fresh_bump t b f;
       }
 
 module _ (c : ℕ) (l : FreeList) (k : ℕ) (freed : List ℕ) (bump : ℕ) (pos : 1 ≤ c) (shape : is_shape c (length l.pages) (length l.entries) ≡ true) where
@@ -137,7 +137,7 @@ module _ (c : ℕ) (l : FreeList) (k : ℕ) (freed : List ℕ) (bump : ℕ) (pos
   -- Every new page is an entry that stood above those left, and that no pop handed out, or a number from the bump up to the new bump;
   -- a top page that is not whole has such an entry for its number.
   pub plan_fresh : Fresh c l k bump plan
-  plan_fresh = (plan_run c l k freed bump (Fresh c l k bump) pos shape (fresh-first c l k bump freed) (fresh-turns c l k bump pos freed)).1
+  plan_fresh = (plan_run c l k freed bump (Fresh c l k bump) pos shape (fresh_first c l k bump freed) (fresh_turns c l k bump pos freed)).1
 
   -- Every new page is an entry of the list, or not below the bump.
   pub new_pages_lem : (n : ℕ) → Memᴰ n plan.fresh → Memᴰ n l.entries ⊎ (bump ≤ n)

@@ -61,27 +61,27 @@ module _ {s : ℕ} {v : Save} {pops bump : ℕ} (b : Begun s v pops bump) where
       changed : Changed s v freed
       changed = record { size = b.size; state = b.state; changed = same_test e }
 
-      is-planned : r ≡ counts (plan_for s v freed)
-      is-planned = rw (b.pops_are, b.bump_is) at is
+      is_planned : r ≡ counts (plan_for s v freed)
+      is_planned = rw (b.pops_are, b.bump_is) at is
 
       -- the list is planned anew
       pub changed-work : ◌≡◌ {A = Work}
           (record { popped = pops; bump = bump; plan = r; pages = r.pages + r.fresh; entries = r.entries + r.pushed; written = r.pages + r.fresh - (r.pages - 1) })
           (work_of s v freed)
       changed-work =
-          rw (b.pops_are, b.bump_is, is-planned, same_test e, written_count changed, pages_count changed, entries_count changed)
+          rw (b.pops_are, b.bump_is, is_planned, same_test e, written_count changed, pages_count changed, entries_count changed)
 
       pub count_small : r.pages + r.fresh ≤ length v.page_table + length v.entry_table + length freed + most_entries
       count_small =
           let l = bounds changed in
           let t = plan_for s v freed in
-          rw is-planned
+          rw is_planned
           (omega (arith, l.tight, l.left, l.longer, l.few, standing.pages_fit, standing.entries_fit, capacity_fits b.size, mul-le-mul_right (t.kept + length t.fresh) b.size.two_entries))
 
       pub listed_small : r.entries + r.pushed ≤ length v.page_table + length v.entry_table + length freed
       listed_small =
           let l = bounds changed in
-          rw is-planned (omega (arith, l.left, l.longer, l.few, standing.pages_fit, standing.entries_fit))
+          rw is_planned (omega (arith, l.left, l.longer, l.few, standing.pages_fit, standing.entries_fit))
 
 -- ---- what was judged is the outcome
 

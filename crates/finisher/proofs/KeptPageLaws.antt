@@ -34,10 +34,10 @@ less_factor c i P h = go (dec_lt i P)
   where
     go : Dec (i < P) → i < P
     go (yes y) = y
-    go (no n) = absurd (omega (arith, mul-le-mul_left c (not-less n)))
+    go (no n) = absurd (omega (arith, mul-le-mul_left c (not_less n)))
       where
-        not-less : (i < P → ⊥) → P ≤ i
-        not-less n = omega arith
+        not_less : (i < P → ⊥) → P ≤ i
+        not_less n = omega arith
 
 -- where more than c * i entries are there, c * i stand below page i
 pub below_full : (c P L i : ℕ) → c * i < L → L ≤ c * P → entries_below c P L i ≡ c * i
@@ -137,9 +137,9 @@ module _ {c : ℕ} {l : FreeList} {t : Plan} (p : Keeps c l t) where
             let e : suc i - 1 ≡ i = omega arith in
             rw (e, ne_eqb (suc i) 0 (omega arith)) (number-below i (omega arith))
 
-    same-part : take c (drop (c * j) (new_list l t).entries) ≡ take c (drop (c * j) l.entries)
+    same_part : take c (drop (c * j) (new_list l t).entries) ≡ take c (drop (c * j) l.entries)
     unfolding new_list
-    same-part = part_of_kept (c * j) t.left c l.entries t.pushed (omega arith) p.left
+    same_part = part_of_kept (c * j) t.left c l.entries t.pushed (omega arith) p.left
 
     -- It keeps its entries.
     pub same_entries : entries_on c (new_list l t) j ≡ entries_on c l j
@@ -150,7 +150,7 @@ module _ {c : ℕ} {l : FreeList} {t : Plan} (p : Keeps c l t) where
         full_page c (new_list l t) j (omega arith)
         (omega (arith, length_new_entries l t p.kept p.left, p.some))
         (omega (arith, length_new_entries l t p.kept p.left, ap (λ (n : ℕ). c * n) (length_new_pages l t p.kept p.left), p.enough))
-        ∙ same-part
+        ∙ same_part
         ∙ sym (full_page c l j (omega arith) (omega arith) p.most)
 
     -- It is full.

@@ -24,8 +24,8 @@ module _ (c : ℕ) (l : FreeList) (k : ℕ) (freed : List ℕ) (bump : ℕ) (two
   plan = plan_of c l k freed bump
 
   -- the push list: freed numbers and old pages
-  count-pushed : (x : ℕ) → (count x freed ≤ count x plan.pushed) × (count x plan.pushed ≤ count x freed + count x l.pages)
-  count-pushed x =
+  count_pushed : (x : ℕ) → (count x freed ≤ count x plan.pushed) × (count x plan.pushed ≤ count x freed + count x l.pages)
+  count_pushed x =
       let low = length l.pages - (length plan.pushed - length freed) in
       let p = plan-pushes c l k freed bump (omega arith) shape in
       omega (
@@ -35,13 +35,13 @@ module _ (c : ℕ) (l : FreeList) (k : ℕ) (freed : List ℕ) (bump : ℕ) (two
         count_split x low l.pages,
       )
 
-  count-new-entries : (x : ℕ) → count x (new_list l plan).entries ≡ count x (take plan.left l.entries) + count x plan.pushed
+  count_new_entries : (x : ℕ) → count x (new_list l plan).entries ≡ count x (take plan.left l.entries) + count x plan.pushed
   unfolding new_list
-  count-new-entries x = count-append x (take plan.left l.entries) plan.pushed
+  count_new_entries x = count-append x (take plan.left l.entries) plan.pushed
 
   -- a page of the new list was a page or an entry of the old one, or is taken past the bump
   pub count_new_pages : (x : ℕ) → count x (new_list l plan).pages ≤ count x l.pages + count x l.entries + count x (numbers_from bump (plan.bump - bump))
-  count_new_pages x = omega (arith, conserved c (omega arith) l k freed bump shape x, count-new-entries x, count-pushed x)
+  count_new_pages x = omega (arith, conserved c (omega arith) l k freed bump shape x, count_new_entries x, count_pushed x)
 
   -- An entry of the new list was an entry or a page of the old one, or was freed.
   pub new_entry : (x : ℕ) → Memᴰ x (new_list l plan).entries → Memᴰ x l.entries ⊎ (Memᴰ x l.pages ⊎ Memᴰ x freed)
@@ -51,12 +51,12 @@ module _ (c : ℕ) (l : FreeList) (k : ℕ) (freed : List ℕ) (bump : ℕ) (two
       go (yes y) d = inl (count-mem x l.entries (omega arith))
       go (no n) (yes y) = inr (inl (count-mem x l.pages (omega arith)))
       go (no n) (no o) =
-          inr (inr (count-mem x freed (omega (arith, mem-count x (new_list l plan).entries m, count-new-entries x, count-pushed x, count_split x plan.left l.entries))))
+          inr (inr (count-mem x freed (omega (arith, mem-count x (new_list l plan).entries m, count_new_entries x, count_pushed x, count_split x plan.left l.entries))))
 
   module _ (distinct : DistinctBelow l bump) where
     -- where x is not below the bump, it is not in the old list
-    none-past : (x : ℕ) → bump ≤ x → count x l.pages + count x l.entries ≡ 0
-    none-past x h = go (dec_lt 0 (count x l.pages)) (dec_lt 0 (count x l.entries))
+    none_past : (x : ℕ) → bump ≤ x → count x l.pages + count x l.entries ≡ 0
+    none_past x h = go (dec_lt 0 (count x l.pages)) (dec_lt 0 (count x l.entries))
       where
         go : Dec (0 < count x l.pages) → Dec (0 < count x l.entries) → count x l.pages + count x l.entries ≡ 0
         go (yes y) d = absurd (omega (arith, distinct.pages_under x (count-mem x l.pages (omega arith))))
@@ -69,7 +69,7 @@ module _ (c : ℕ) (l : FreeList) (k : ℕ) (freed : List ℕ) (bump : ℕ) (two
       where
         go : Dec (x < bump) → count x (new_list l plan).pages ≤ 1
         go (yes y) = omega (arith, count_new_pages x, distinct.once x, count-before x bump (plan.bump - bump) y)
-        go (no n) = omega (arith, count_new_pages x, none-past x (omega arith), count_once x bump (plan.bump - bump))
+        go (no n) = omega (arith, count_new_pages x, none_past x (omega arith), count_once x bump (plan.bump - bump))
 
     -- The pages of the new list are below the new bump.
     pub pages-below : (x : ℕ) → Memᴰ x (new_list l plan).pages → x < plan.bump
@@ -81,7 +81,7 @@ module _ (c : ℕ) (l : FreeList) (k : ℕ) (freed : List ℕ) (bump : ℕ) (two
         go : Dec (x < bump) → x < plan.bump
         go (yes y) = omega (arith, up)
         go (no n) =
-            let past = count_within_lem x bump (plan.bump - bump) (omega (arith, mem-count x (new_list l plan).pages m, count_new_pages x, none-past x (omega arith))) in
+            let past = count_within_lem x bump (plan.bump - bump) (omega (arith, mem-count x (new_list l plan).pages m, count_new_pages x, none_past x (omega arith))) in
             omega (arith, up, past)
 
     -- None is 0, where none of the old list is.

@@ -109,9 +109,9 @@ module _ (c : ℕ) (l : FreeList) (k : ℕ) (freed : List ℕ) (bump : ℕ) (pos
         },
       )
 
-  first-mending : k ≡ 0 → 1 ≤ length l.entries → mends c l k ≡ true → 2 ≤ length l.pages → length l.entries ≡ c * (length l.pages - 1)
+  first_mending : k ≡ 0 → 1 ≤ length l.entries → mends c l k ≡ true → 2 ≤ length l.pages → length l.entries ≡ c * (length l.pages - 1)
       → pages_after c l k ≡ length l.pages → Pushing (mended c l (length l.entries - suc k) (pushed_after c l k freed) bump)
-  first-mending e some f two all z =
+  first_mending e some f two all z =
       let list = after_two f z (length l.pages - 2) (length l.pages - 1) (omega arith) (omega arith) in (
         length l.pages - 2,
         record {
@@ -126,8 +126,8 @@ module _ (c : ℕ) (l : FreeList) (k : ℕ) (freed : List ℕ) (bump : ℕ) (pos
         },
       )
 
-  first-emptying : mends c l k ≡ false → (p n : ℕ) → pages_after c l k ≡ p → 1 ≤ p → p ≤ length l.pages → n ≡ c * (p - 1) → Pushing (emptied c l p n (pushed_after c l k freed) bump)
-  first-emptying e p n f one most x =
+  first_emptying : mends c l k ≡ false → (p n : ℕ) → pages_after c l k ≡ p → 1 ≤ p → p ≤ length l.pages → n ≡ c * (p - 1) → Pushing (emptied c l p n (pushed_after c l k freed) bump)
+  first_emptying e p n f one most x =
       let list = after_next e p (p - 1) f (omega arith) most in (
         p - 1,
         record {
@@ -142,8 +142,8 @@ module _ (c : ℕ) (l : FreeList) (k : ℕ) (freed : List ℕ) (bump : ℕ) (pos
         },
       )
 
-  first-renumbering : mends c l k ≡ false → (p n : ℕ) → pages_after c l k ≡ p → 1 ≤ p → p ≤ length l.pages → n < c * p → Pushing (renumbered c l p n (pushed_after c l k freed) bump)
-  first-renumbering e p n f one most lt =
+  first_renumbering : mends c l k ≡ false → (p n : ℕ) → pages_after c l k ≡ p → 1 ≤ p → p ≤ length l.pages → n < c * p → Pushing (renumbered c l p n (pushed_after c l k freed) bump)
+  first_renumbering e p n f one most lt =
       let list = after_next e p (p - 1) f (omega arith) most in (
         p - 1,
         record {
@@ -158,17 +158,17 @@ module _ (c : ℕ) (l : FreeList) (k : ℕ) (freed : List ℕ) (bump : ℕ) (pos
         },
       )
 
-  pushes-first : FirstCases c l k freed bump Pushing
-  pushes-first =
+  pushes_first : FirstCases c l k freed bump Pushing
+  pushes_first =
       record {
         none = λ h e z. first_none e z;
-        mending = first-mending;
-        emptying = λ lt e one most x. first-emptying e _ _ refl one most x;
-        renumbering = λ lt e one most fits. first-renumbering e _ _ refl one most (omega arith);
+        mending = first_mending;
+        emptying = λ lt e one most x. first_emptying e _ _ refl one most x;
+        renumbering = λ lt e one most fits. first_renumbering e _ _ refl one most (omega arith);
       }
 
-  turn-swap : (t : Plan) → Pushing t → 1 ≤ t.kept → t.left ≡ c * t.kept → Pushing (swap_top c l t)
-  turn-swap t (low, p) one x =
+  turn_swap : (t : Plan) → Pushing t → 1 ≤ t.kept → t.left ≡ c * t.kept → Pushing (swap_top c l t)
+  turn_swap t (low, p) one x =
       let list : t.pushed ++ (t.top ∷ []) ≡ push_list freed (mends c l k) l.pages (t.kept - 1) =
       ap₂ (λ (ns : List ℕ) (n : ℕ). ns ++ (n ∷ [])) (p.list ∙ ap (push_list freed (mends c l k) l.pages) (p.whole x ∙ omega arith)) (p.whole_top one x)
       ∙ push_next freed (mends c l k) l.pages (t.kept - 1) (omega (arith, p.whole x, p.most)) (λ y. omega (arith, p.two y, p.whole x)) in
@@ -186,8 +186,8 @@ module _ (c : ℕ) (l : FreeList) (k : ℕ) (freed : List ℕ) (bump : ℕ) (pos
         },
       )
 
-  turn-take : (t : Plan) → Bounded c l k t → Pushing t → 1 ≤ t.left → (t.left ≡ c * t.kept → ⊥) → Pushing (take_entry c l t)
-  turn-take t b (low, p) some ne = (
+  turn_take : (t : Plan) → Bounded c l k t → Pushing t → 1 ≤ t.left → (t.left ≡ c * t.kept → ⊥) → Pushing (take_entry c l t)
+  turn_take t b (low, p) some ne = (
     low,
     record {
       list = p.list;
@@ -216,31 +216,31 @@ module _ (c : ℕ) (l : FreeList) (k : ℕ) (freed : List ℕ) (bump : ℕ) (pos
     },
   )
 
-  turn-bump : (t : Plan) → Pushing t → Pushing (take_bump c l t)
-  turn-bump t (low, p) =
+  turn_bump : (t : Plan) → Pushing t → Pushing (take_bump c l t)
+  turn_bump t (low, p) =
       (low, record { list = p.list; many = p.many; most = p.most; two = p.two; whole_top = p.whole_top; whole = p.whole; partial = p.partial; none = p.none })
 
-  pushes-turns : TurnCases c l k freed bump Pushing
-  pushes-turns =
+  pushes_turns : TurnCases c l k freed bump Pushing
+  pushes_turns =
       record {
-        swapping = λ t b p one x. turn-swap t p one x;
-        taking = λ t b p some one ne. turn-take t b p some ne;
+        swapping = λ t b p one x. turn_swap t p one x;
+        taking = λ t b p some one ne. turn_take t b p some ne;
         taking-last = λ t b p some one ne x. turn_last t p one ne x;
-        bumping = λ t b p. turn-bump t p;
+        bumping = λ t b p. turn_bump t p;
       }
 
   -- The push list of a finish is the freed numbers, then the old numbers of the pages from the top down to the one that its length
   -- tells, without a gap; a list that was mended has the page under the head first.
   module _ (shape : is_shape c (length l.pages) (length l.entries) ≡ true) where
     pub plan-pushes : Pushes c l freed (mends c l k) (length l.pages - (length (plan_of c l k freed bump).pushed - length freed)) (plan_of c l k freed bump)
-    plan-pushes = told (plan_run c l k freed bump Pushing pos shape pushes-first pushes-turns).1
+    plan-pushes = told (plan_run c l k freed bump Pushing pos shape pushes_first pushes_turns).1
       where
         told : Pushing (plan_of c l k freed bump) → Pushes c l freed (mends c l k) (length l.pages - (length (plan_of c l k freed bump).pushed - length freed)) (plan_of c l k freed bump)
         told (low, p) = subst (λ (n : ℕ). Pushes c l freed (mends c l k) n (plan_of c l k freed bump)) (omega (arith, p.many, p.most)) p
 
     -- what is left fits on the pages kept
     pub plan-bounded : Bounded c l k (plan_of c l k freed bump)
-    plan-bounded = (plan_run c l k freed bump Pushing pos shape pushes-first pushes-turns).0
+    plan-bounded = (plan_run c l k freed bump Pushing pos shape pushes_first pushes_turns).0
 
     -- it is no shorter than the freed numbers, and longer by no more than the pages
     pub plan-longer : length freed ≤ length (plan_of c l k freed bump).pushed

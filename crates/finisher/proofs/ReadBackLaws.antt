@@ -57,14 +57,14 @@ module _ (s : ℕ) (size : IsPageSize s) (l : FreeList) (k : ℕ) (freed : List 
       × (entries_of (page_at s after (get_or l.pages j 0)) ≡ entries_of (page_at s store (get_or l.pages j 0))))
       (found : (j : ℕ) → made.kept ≤ j + 1 → j < length new.pages
       → (page_at s after (get_or new.pages j 0) ≡ (encoded_page s new j).bytes) × (get_or new.pages j 0 < page_count s after)) where
-    shape-after : is_shape (capacity s) (length new.pages) (length new.entries) ≡ true
-    shape-after = new_shape (capacity s) l k freed bump size.two_entries stored.shape kL changed
+    shape_after : is_shape (capacity s) (length new.pages) (length new.entries) ≡ true
+    shape_after = new_shape (capacity s) l k freed bump size.two_entries stored.shape kL changed
 
-    kept-few : made.kept ≤ length l.pages
-    kept-few = plan_kept (capacity s) l size.two_entries stored.shape k freed bump
+    kept_few : made.kept ≤ length l.pages
+    kept_few = plan_kept (capacity s) l size.two_entries stored.shape k freed bump
 
-    same-as : (j : ℕ) → j + 1 < made.kept → SameKept s l made j
-    same-as = kept_below s l k freed bump size.two_entries stored.shape kL changed
+    same_as : (j : ℕ) → j + 1 < made.kept → SameKept s l made j
+    same_as = kept_below s l k freed bump size.two_entries stored.shape kL changed
 
     no_zero : count 0 l.pages + count 0 l.entries ≡ 0
     no_zero = go (dec_lt 0 (count 0 l.pages)) (dec_lt 0 (count 0 l.entries))
@@ -74,67 +74,67 @@ module _ (s : ℕ) (size : IsPageSize s) (l : FreeList) (k : ℕ) (freed : List 
         go (no n) (yes y) = absurd (omega (arith, (stored.entries_inside 0 (count-mem 0 l.entries (omega arith))).0))
         go (no n) (no o) = omega arith
 
-    below-bump : (x : ℕ) → Memᴰ x new.pages → x < made.bump
-    below-bump = pages-below (capacity s) l k freed bump size.two_entries stored.shape distinct
+    below_bump : (x : ℕ) → Memᴰ x new.pages → x < made.bump
+    below_bump = pages-below (capacity s) l k freed bump size.two_entries stored.shape distinct
 
-    more-inside : (x : ℕ) → Inside (page_count s store) x → Inside (page_count s after) x
-    more-inside x h = (h.0, omega (arith, h.1))
+    more_inside : (x : ℕ) → Inside (page_count s store) x → Inside (page_count s after) x
+    more_inside x h = (h.0, omega (arith, h.1))
 
-    new-entries-inside : (x : ℕ) → Memᴰ x new.entries → Inside (page_count s after) x
-    new-entries-inside x m = go (new_entry (capacity s) l k freed bump size.two_entries stored.shape x m)
+    new_entries_inside : (x : ℕ) → Memᴰ x new.entries → Inside (page_count s after) x
+    new_entries_inside x m = go (new_entry (capacity s) l k freed bump size.two_entries stored.shape x m)
       where
         go : Memᴰ x l.entries ⊎ (Memᴰ x l.pages ⊎ Memᴰ x freed) → Inside (page_count s after) x
-        go (inl h) = more-inside x (stored.entries_inside x h)
-        go (inr (inl h)) = more-inside x (at_places (λ (n : ℕ). Inside (page_count s store) n) l.pages stored.inside x h)
+        go (inl h) = more_inside x (stored.entries_inside x h)
+        go (inr (inl h)) = more_inside x (at_places (λ (n : ℕ). Inside (page_count s store) n) l.pages stored.inside x h)
         go (inr (inr h)) = freed-inside x h
 
     pages_fit : (x : ℕ) → Memᴰ x new.pages → x < 2 ^ 32
-    pages_fit x m = omega (arith, below-bump x m)
+    pages_fit x m = omega (arith, below_bump x m)
 
     entries_fit : (x : ℕ) → Memᴰ x new.entries → x < 2 ^ 32
-    entries_fit x m = omega (arith, new-entries-inside x m, page_count_fits s after)
+    entries_fit x m = omega (arith, new_entries_inside x m, page_count_fits s after)
 
     -- each page is a kept one or a written one
     module _ (j : ℕ) (h : j < length new.pages) where
-      new-inside : Inside (page_count s after) (get_or new.pages j 0)
-      new-inside = go (dec_lt (j + 1) made.kept)
+      new_inside : Inside (page_count s after) (get_or new.pages j 0)
+      new_inside = go (dec_lt (j + 1) made.kept)
         where
           go : Dec (j + 1 < made.kept) → Inside (page_count s after) (get_or new.pages j 0)
-          go (yes y) = rw (same-as j y).number (more-inside (get_or l.pages j 0) (stored.inside j (omega (arith, kept-few))))
+          go (yes y) = rw (same_as j y).number (more_inside (get_or l.pages j 0) (stored.inside j (omega (arith, kept_few))))
           go (no n) = (pages-some (capacity s) l k freed bump size.two_entries stored.shape distinct no_zero _ (get_d-mem new.pages j h), (found j (omega arith) h).1)
 
-      new-before : prev_of (page_at s after (get_or new.pages j 0)) ≡ previous new.pages j
-      new-before = go (dec_lt (j + 1) made.kept)
+      new_before : prev_of (page_at s after (get_or new.pages j 0)) ≡ previous new.pages j
+      new_before = go (dec_lt (j + 1) made.kept)
         where
           go : Dec (j + 1 < made.kept) → prev_of (page_at s after (get_or new.pages j 0)) ≡ previous new.pages j
           go (yes y) =
-              ap (λ (p : ℕ). prev_of (page_at s after p)) (same-as j y).number
+              ap (λ (p : ℕ). prev_of (page_at s after p)) (same_as j y).number
               ∙ (kept_same j y).0
-              ∙ stored.before j (omega (arith, kept-few))
-              ∙ sym (same-as j y).before
-          go (no n) = ap prev_of (found j (omega arith) h).0 ∙ decoded-before s size new shape-after j h pages_fit entries_fit
+              ∙ stored.before j (omega (arith, kept_few))
+              ∙ sym (same_as j y).before
+          go (no n) = ap prev_of (found j (omega arith) h).0 ∙ decoded-before s size new shape_after j h pages_fit entries_fit
 
-      new-entries : entries_of (page_at s after (get_or new.pages j 0)) ≡ entries_on (capacity s) new j
-      new-entries = go (dec_lt (j + 1) made.kept)
+      new_entries : entries_of (page_at s after (get_or new.pages j 0)) ≡ entries_on (capacity s) new j
+      new_entries = go (dec_lt (j + 1) made.kept)
         where
           go : Dec (j + 1 < made.kept) → entries_of (page_at s after (get_or new.pages j 0)) ≡ entries_on (capacity s) new j
           go (yes y) =
-              ap (λ (p : ℕ). entries_of (page_at s after p)) (same-as j y).number
+              ap (λ (p : ℕ). entries_of (page_at s after p)) (same_as j y).number
               ∙ (kept_same j y).1
-              ∙ stored.entries j (omega (arith, kept-few))
-              ∙ sym (same-as j y).entries
-          go (no n) = ap entries_of (found j (omega arith) h).0 ∙ decoded-entries s size new shape-after j h pages_fit entries_fit
+              ∙ stored.entries j (omega (arith, kept_few))
+              ∙ sym (same_as j y).entries
+          go (no n) = ap entries_of (found j (omega arith) h).0 ∙ decoded-entries s size new shape_after j h pages_fit entries_fit
 
     pub new-stored : StoredList s after new
     new-stored =
         record {
-          shape = shape-after;
+          shape = shape_after;
           few = no_more (page_count s after) new.pages (pages-once (capacity s) l k freed bump size.two_entries stored.shape distinct)
-              (at_places (λ (n : ℕ). n < page_count s after) new.pages (λ j h. (new-inside j h).1));
-          inside = new-inside;
-          before = new-before;
-          entries = new-entries;
-          entries_inside = new-entries-inside;
+              (at_places (λ (n : ℕ). n < page_count s after) new.pages (λ j h. (new_inside j h).1));
+          inside = new_inside;
+          before = new_before;
+          entries = new_entries;
+          entries_inside = new_entries_inside;
         }
 
   -- The new list reads back from the store that its pages were written to, as encoded and each at its number.
@@ -142,11 +142,11 @@ module _ (s : ℕ) (size : IsPageSize s) (l : FreeList) (k : ℕ) (freed : List 
     abbrev after : List ℕ
     after = write_pages s store (carried_out s l made).written
 
-    shape-new : is_shape (capacity s) (length new.pages) (length new.entries) ≡ true
-    shape-new = new_shape (capacity s) l k freed bump size.two_entries stored.shape kL changed
+    shape_new : is_shape (capacity s) (length new.pages) (length new.entries) ≡ true
+    shape_new = new_shape (capacity s) l k freed bump size.two_entries stored.shape kL changed
 
     long : (j : ℕ) → j < length new.pages → length (encoded_page s new j).bytes ≡ s
-    long = encoded_long s size new shape-new
+    long = encoded_long s size new shape_new
 
     differ : (i j : ℕ) → i < j → j < length new.pages → get_or new.pages i 0 ≢ get_or new.pages j 0
     differ = pages-differ (capacity s) l k freed bump size.two_entries stored.shape distinct
@@ -194,9 +194,9 @@ module _ (s : ℕ) (size : IsPageSize s) (l : FreeList) (store : List ℕ) (head
   unfolding write_pages
   reads_same limit inside = ap (read_list s store) (sym (head_read s store head l read)) ∙ read
 
-  reads-changed : (k : ℕ) → k ≤ length l.entries → eqb k 0 && eqb (length freed) 0 ≡ false → ReadsBack (carried_out s l (plan_of (capacity s) l k freed bump))
+  reads_changed : (k : ℕ) → k ≤ length l.entries → eqb k 0 && eqb (length freed) 0 ≡ false → ReadsBack (carried_out s l (plan_of (capacity s) l k freed bump))
   unfolding carried_out
-  reads-changed k kL changed limit inside = new-read s size l k freed bump store (stored-read s store head l read) distinct kL changed limit inside
+  reads_changed k kL changed limit inside = new-read s size l k freed bump store (stored-read s store head l read) distinct kL changed limit inside
 
   -- After a list was read from a store, and the pages that its finish makes were written there, as encoded and each at its number, reading
   -- from the new head gives the new list. Asked for are a list that is distinct; a bump that stays a page number, since no store has more
@@ -207,7 +207,7 @@ module _ (s : ℕ) (size : IsPageSize s) (l : FreeList) (store : List ℕ) (head
   unfolding finish_list
   finish_reads =
       let k = min handed (length l.entries) in
-      cond_cases ReadsBack (eqb k 0 && eqb (length freed) 0) _ _ (λ _. reads_same) (reads-changed k (omega arith))
+      cond_cases ReadsBack (eqb k 0 && eqb (length freed) 0) _ _ (λ _. reads_same) (reads_changed k (omega arith))
 
 -- none of the freed numbers is bad
 pub good_freed : (limit : ℕ) (ns : List ℕ) → first_bad limit ns ≡ length ns → (n : ℕ) → Memᴰ n ns → (1 ≤ n) × (n < limit)

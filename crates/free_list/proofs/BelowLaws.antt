@@ -48,16 +48,16 @@ pub record OnPage (c L below next : ℕ) : Type 0 where
 
 module _ (c P L : ℕ) (pos : 2 ≤ c) (some : 1 ≤ L) (most : L ≤ c * P) (least : c * (P - 1) ≤ L) (j : ℕ) (inside : j < P) where
   -- the head
-  on-head : j + 1 ≡ P → (b : Bool) → is_fragmented c P L ≡ b → OnPage c L (entries_below c P L j) (entries_below c P L (j + 1))
-  on-head head true e = rw (← below_all c P L (j + 1) (omega arith), ← below-fragmented c P L j head e) (record { order = omega arith; few = omega arith; within = omega arith })
-  on-head head false e =
+  on_head_lem : j + 1 ≡ P → (b : Bool) → is_fragmented c P L ≡ b → OnPage c L (entries_below c P L j) (entries_below c P L (j + 1))
+  on_head_lem head true e = rw (← below_all c P L (j + 1) (omega arith), ← below-fragmented c P L j head e) (record { order = omega arith; few = omega arith; within = omega arith })
+  on_head_lem head false e =
       let under : c * (P - 1) ≡ c * j = ap (λ (k : ℕ). c * k) (omega arith) in
       let whole : c * P ≡ c * j + c = ap (λ (k : ℕ). c * k) (sym head) ∙ omega arith in
       rw (← below_all c P L (j + 1) (omega arith), ← below-head c P L j head e) (record { order = omega arith; few = omega arith; within = omega arith })
 
   -- the page under it
-  on-under : j + 2 ≡ P → (b : Bool) → is_fragmented c P L ≡ b → OnPage c L (entries_below c P L j) (entries_below c P L (j + 1))
-  on-under under b e =
+  on_under : j + 2 ≡ P → (b : Bool) → is_fragmented c P L ≡ b → OnPage c L (entries_below c P L j) (entries_below c P L (j + 1))
+  on_under under b e =
       let next : c * (P - 1) ≡ c * j + c = ap (λ (k : ℕ). c * k) (last under) ∙ omega arith in
       at b e next
     where
@@ -73,8 +73,8 @@ module _ (c P L : ℕ) (pos : 2 ≤ c) (some : 1 ≤ L) (most : L ≤ c * P) (le
           rw (← below_inner c P L j (omega arith), ← below-head c P L (j + 1) (omega arith) e) (record { order = omega arith; few = omega arith; within = omega arith })
 
   -- a deeper one
-  on-deeper : j + 2 < P → OnPage c L (entries_below c P L j) (entries_below c P L (j + 1))
-  on-deeper h =
+  on_deeper : j + 2 < P → OnPage c L (entries_below c P L j) (entries_below c P L (j + 1))
+  on_deeper h =
       let more : c * (j + 1) ≡ c * j + c = omega arith in
       let under : c * (j + 1) ≤ c * (P - 1) = mul-le-mul_left c (last h) in
       rw (← below_inner c P L j (omega arith), ← below_inner c P L (j + 1) (omega arith)) (record { order = omega arith; few = omega arith; within = omega arith })
@@ -86,6 +86,6 @@ module _ (c P L : ℕ) (pos : 2 ≤ c) (some : 1 ≤ L) (most : L ≤ c * P) (le
   on_page = place (dec_lt (j + 1) P) (dec_lt (j + 2) P)
     where
       place : Dec (j + 1 < P) → Dec (j + 2 < P) → OnPage c L (entries_below c P L j) (entries_below c P L (j + 1))
-      place (no n) d = on-head (omega arith) (is_fragmented c P L) refl
-      place (yes y) (no n) = on-under (omega arith) (is_fragmented c P L) refl
-      place (yes y) (yes z) = on-deeper z
+      place (no n) d = on_head_lem (omega arith) (is_fragmented c P L) refl
+      place (yes y) (no n) = on_under (omega arith) (is_fragmented c P L) refl
+      place (yes y) (yes z) = on_deeper z

@@ -51,11 +51,11 @@ module _ (c P L : ℕ) (pos : 2 ≤ c) (some : 1 ≤ L) (most : L ≤ c * P) (le
   abbrev Fits : Type 0
   Fits = count_fits false c (P - (j + 1)) (L - entries_below c P L (j + 1)) (entries_below c P L (j + 1) - entries_below c P L j) ≡ true
 
-  fits-on-head : j + 1 ≡ P → (b : Bool) → is_fragmented c P L ≡ b → Fits
-  fits-on-head head true e =
+  fits_on_head : j + 1 ≡ P → (b : Bool) → is_fragmented c P L ≡ b → Fits
+  fits_on_head head true e =
       rw (← below_all c P L (j + 1) (omega arith), ← below-fragmented c P L j head e)
       (fits_head c (P - (j + 1)) (L - L) (L - (L - 1)) (omega arith) (omega arith) (omega arith))
-  fits-on-head head false e =
+  fits_on_head head false e =
       let more = some_on_head c P L j head some least e in
       let whole : c * P ≡ c * j + c = ap (λ (k : ℕ). c * k) (sym head) ∙ omega arith in
       rw (← below_all c P L (j + 1) (omega arith), ← below-head c P L j head e)
@@ -75,8 +75,8 @@ module _ (c P L : ℕ) (pos : 2 ≤ c) (some : 1 ≤ L) (most : L ≤ c * P) (le
       rw (← below_inner c P L j (omega arith), ← below-head c P L (j + 1) (omega arith) e)
       (fits_whole c (P - (j + 1)) (L - c * (j + 1)) (c * (j + 1) - c * j) (omega arith) (omega arith))
 
-  fits-deeper : j + 2 < P → Fits
-  fits-deeper h =
+  fits_deeper : j + 2 < P → Fits
+  fits_deeper h =
       let next : c * (j + 1) ≡ c * j + c = omega arith in
       rw (← below_inner c P L j (omega arith), ← below_inner c P L (j + 1) (omega arith))
       (fits_whole c (P - (j + 1)) (L - c * (j + 1)) (c * (j + 1) - c * j) (omega arith) (omega arith))
@@ -85,9 +85,9 @@ module _ (c P L : ℕ) (pos : 2 ≤ c) (some : 1 ≤ L) (most : L ≤ c * P) (le
   count_fits_lem = place (dec_lt (j + 1) P) (dec_lt (j + 2) P)
     where
       place : Dec (j + 1 < P) → Dec (j + 2 < P) → Fits
-      place (no n) d = fits-on-head (omega arith) (is_fragmented c P L) refl
+      place (no n) d = fits_on_head (omega arith) (is_fragmented c P L) refl
       place (yes y) (no n) = fits_under (omega arith) (is_fragmented c P L) refl
-      place (yes y) (yes z) = fits-deeper z
+      place (yes y) (yes z) = fits_deeper z
 
 -- below the bottom page stands nothing
 pub below_none : (c P L : ℕ) → (P ≡ 0 → L ≡ 0) → entries_below c P L 0 ≡ 0

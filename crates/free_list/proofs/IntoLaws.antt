@@ -55,8 +55,8 @@ module _ (s : ℕ) (store : List ℕ) (loose : Bool) (head : ℕ) where
     into-refused e = rw (with_answer_refused (λ l. size_of l) (list_from s store loose head) (sym e))
 
     module _ {P L : ℕ} (l : Listed s store loose head P L) where
-      fits-pages : P ≤ length t.pages → leb (length l.list.pages) (length t.pages) ≡ true
-      fits-pages k = le-leb (length l.list.pages) (length t.pages) (omega (arith, l.pages))
+      fits_pages : P ≤ length t.pages → leb (length l.list.pages) (length t.pages) ≡ true
+      fits_pages k = le-leb (length l.list.pages) (length t.pages) (omega (arith, l.pages))
 
       -- a table that is shorter than the list
       pub into-short-pages : length t.pages < P → effect (refused 6 []) t ≡ read_list_into s store loose head t
@@ -65,11 +65,11 @@ module _ (s : ℕ) (store : List ℕ) (loose : Bool) (head : ℕ) where
 
       pub into-short-entries : P ≤ length t.pages → length t.entries < L → effect (refused 6 []) t ≡ read_list_into s store loose head t
       unfolding read_list_into
-      into-short-entries k h = rw (l.reads, fits-pages k, lt-leb (length l.list.entries) (length t.entries) (omega (arith, l.entries)))
+      into-short-entries k h = rw (l.reads, fits_pages k, lt-leb (length l.list.entries) (length t.entries) (omega (arith, l.entries)))
 
       -- room for it
       pub into-read : P ≤ length t.pages → L ≤ length t.entries
           → effect (answer (record { P = P; L = L })) (list_in t (chain_from s store P head)) ≡ read_list_into s store loose head t
       unfolding read_list_into
       into-read k h =
-          rw (l.reads, fits-pages k, le-leb (length l.list.entries) (length t.entries) (omega (arith, l.entries)), l.pages, l.entries, ← l.chain)
+          rw (l.reads, fits_pages k, le-leb (length l.list.entries) (length t.entries) (omega (arith, l.entries)), l.pages, l.entries, ← l.chain)

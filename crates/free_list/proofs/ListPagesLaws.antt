@@ -66,10 +66,10 @@ module _ (s prev : ℕ) (es : List ℕ) where
       t ∙ rw (r, q, p, ← count) (sym (parts ∙ last) ∙ whole)
 
   -- what is encoded is decoded again
-  module _ (prev-fits : prev < 2 ^ 32) (count_fits_lem : length es < 2 ^ 16) (entries_fit : (n : ℕ) → Memᴰ n es → n < 2 ^ 32) where
+  module _ (prev_fits : prev < 2 ^ 32) (count_fits_lem : length es < 2 ^ 16) (entries_fit : (n : ℕ) → Memᴰ n es → n < 2 ^ 32) where
     pub prev-encoded : prev_of (encode_list_page s prev es) ≡ prev
     unfolding prev_of encode_list_page
-    prev-encoded = number_at_append-left 4 (bytes_of 4 prev) _ 0 (omega (arith, length_bytes_of 4 prev)) ∙ number_at_bytes_of 4 prev prev-fits
+    prev-encoded = number_at_append-left 4 (bytes_of 4 prev) _ 0 (omega (arith, length_bytes_of 4 prev)) ∙ number_at_bytes_of 4 prev prev_fits
 
     pub count_encoded : count_of (encode_list_page s prev es) ≡ length es
     unfolding count_of encode_list_page bytes_of padding

@@ -150,14 +150,14 @@ module _ (s : ℕ) (store : List ℕ) (P L p : ℕ) (l : FreeList) where
         go (yes e) = subst Q e q
         go (no ne) = f j (omega (arith, many))
 
-    at-below : (j : ℕ) → j < length l.pages → get_or on_it.pages j 0 ≡ get_or l.pages j 0
-    at-below j h = get_or-append l.pages (p ∷ []) 0 j h
+    at_below : (j : ℕ) → j < length l.pages → get_or on_it.pages j 0 ≡ get_or l.pages j 0
+    at_below j h = get_or-append l.pages (p ∷ []) 0 j h
 
     at_top : get_or on_it.pages (length l.pages) 0 ≡ p
     at_top = get_or_at l.pages p [] 0 (length l.pages) refl
 
-    part-top : entries_of page ≡ take (up_to (length l.pages + 1) - up_to (length l.pages)) (drop (up_to (length l.pages)) on_it.entries)
-    part-top =
+    part_top : entries_of page ≡ take (up_to (length l.pages + 1) - up_to (length l.pages)) (drop (up_to (length l.pages)) on_it.entries)
+    part_top =
         let few : length l.entries + count_of page - length l.entries ≡ length (entries_of page) = omega (arith, length-entries_of page) in
         rw (next, here, few, drop_at l.entries (entries_of page) (length l.entries) refl) (sym (take-length (entries_of page)))
 
@@ -166,15 +166,15 @@ module _ (s : ℕ) (store : List ℕ) (P L p : ℕ) (l : FreeList) where
         record {
           top = sym (previous_last l.pages p);
           before = each (λ (j : ℕ). prev_of (page_at s store (get_or on_it.pages j 0)) ≡ previous on_it.pages j)
-              (λ j h. ap (λ (n : ℕ). prev_of (page_at s store n)) (at-below j h) ∙ c.before j h ∙ sym (previous-append l.pages p j (omega arith)))
+              (λ j h. ap (λ (n : ℕ). prev_of (page_at s store n)) (at_below j h) ∙ c.before j h ∙ sym (previous-append l.pages p j (omega arith)))
               (ap (λ (n : ℕ). prev_of (page_at s store n)) at_top ∙ c.top ∙ sym (previous-append l.pages p (length l.pages) (omega arith)));
           order = each (λ (j : ℕ). up_to j ≤ up_to (j + 1)) c.order (omega arith);
           within = each (λ (j : ℕ). up_to (j + 1) ≤ length on_it.entries) (λ j h. omega (arith, c.within j h, all)) (omega (arith, all));
           part = each (λ (j : ℕ). entries_of (page_at s store (get_or on_it.pages j 0)) ≡ take (up_to (j + 1) - up_to j) (drop (up_to j) on_it.entries))
-              (λ j h. ap (λ (n : ℕ). entries_of (page_at s store n)) (at-below j h)
+              (λ j h. ap (λ (n : ℕ). entries_of (page_at s store n)) (at_below j h)
               ∙ c.part j h
               ∙ sym (part-append (up_to j) (up_to (j + 1) - up_to j) l.entries (entries_of page) (omega (arith, c.order j h, c.within j h))))
-              (ap (λ (n : ℕ). entries_of (page_at s store n)) at_top ∙ part-top);
+              (ap (λ (n : ℕ). entries_of (page_at s store n)) at_top ∙ part_top);
         }
 
 -- every list that is read, page by page
@@ -227,13 +227,13 @@ module _ (s : ℕ) (store : List ℕ) where
       let same : empty_list ≡ l = unanswer (sym (read_from_end s store false allowed above entries) ∙ e) in
       rw (← same) (omega arith)
 
-  read-few : (allowed above entries p : ℕ) (l : FreeList) → read_from s store false allowed above entries p ≡ answer l → length l.pages ≤ allowed
-  read-few zero above entries zero l e = none_read zero above entries e
-  read-few zero above entries (suc q) l e = absurd (none_allowed s store false above entries q e)
-  read-few (suc allowed) above entries zero l e = none_read (suc allowed) above entries e
-  read-few (suc allowed) above entries (suc q) l e =
+  read_few : (allowed above entries p : ℕ) (l : FreeList) → read_from s store false allowed above entries p ≡ answer l → length l.pages ≤ allowed
+  read_few zero above entries zero l e = none_read zero above entries e
+  read_few zero above entries (suc q) l e = absurd (none_allowed s store false above entries q e)
+  read_few (suc allowed) above entries zero l e = none_read (suc allowed) above entries e
+  read_few (suc allowed) above entries (suc q) l e =
       let r = page_read s store false allowed above entries q e in
-      omega (arith, ap (λ (m : FreeList). length m.pages) r.whole, length-append r.below.pages (suc q ∷ []), read-few allowed _ _ _ r.below r.reads)
+      omega (arith, ap (λ (m : FreeList). length m.pages) r.whole, length-append r.below.pages (suc q ∷ []), read_few allowed _ _ _ r.below r.reads)
 
   -- A list that was read from a store is held by it, and its head is the page that it was read from.
   module _ (head : ℕ) (l : FreeList) (read : read_list s store head ≡ answer l) where
@@ -243,23 +243,23 @@ module _ (s : ℕ) (store : List ℕ) where
         (read_elim s store false (Reads s store) reads_none reads_more (page_count s store) 0 0 head l read).1
         (λ _. refl, λ h. absurd (omega arith)) (length l.pages) (length l.entries) (omega arith) (omega arith)
 
-    chained-few : length l.pages ≤ page_count s store
+    chained_few : length l.pages ≤ page_count s store
     unfolding list_from
-    chained-few = read-few (page_count s store) 0 0 head l read
+    chained_few = read_few (page_count s store) 0 0 head l read
 
-    chained-entries : (j : ℕ) → j < length l.pages → entries_of (page_at s store (get_or l.pages j 0)) ≡ entries_on (capacity s) l j
+    chained_entries : (j : ℕ) → j < length l.pages → entries_of (page_at s store (get_or l.pages j 0)) ≡ entries_on (capacity s) l j
     unfolding entries_on
-    chained-entries j h = chained.part j h
+    chained_entries j h = chained.part j h
 
     pub stored-read : StoredList s store l
     stored-read =
         let a = read_accepted s store head l read in
         record {
           shape = a.shape;
-          few = chained-few;
+          few = chained_few;
           inside = λ j h. a.pages_inside (get_or l.pages j 0) (get_d-mem l.pages j h);
           before = chained.before;
-          entries = chained-entries;
+          entries = chained_entries;
           entries_inside = a.entries_inside;
         }
 

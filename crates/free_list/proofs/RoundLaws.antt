@@ -30,10 +30,10 @@ module _ (s : ℕ) (store : List ℕ) (loose : Bool) where
   trail_more (suc n) p q t w = (t.0, trail_more n (prev_of (page_at s store p)) q t.1 w)
 
   -- reading from such a page, where the page under it is refused with 5
-  passable-chain : (allowed above entries p : ℕ) → 1 ≤ allowed → Passable s store loose p
+  passable_chain : (allowed above entries p : ℕ) → 1 ≤ allowed → Passable s store loose p
       → read_from s store loose (allowed - 1) (above + 1) (entries + count_of (page_at s store p)) (prev_of (page_at s store p)) ≡ refused 5 []
       → 2 ≤ above → read_from s store loose allowed above entries p ≡ refused 5 []
-  passable-chain allowed above entries p more w under h =
+  passable_chain allowed above entries p more w under h =
       read_from-page s store loose allowed above entries p more w.some
       ∙ rw (lt-ltb p (page_count s store) w.inside, fits_deep loose (capacity s) above entries (count_of (page_at s store p)) h, w.fits, w.entries_fit, under)
 
@@ -49,14 +49,14 @@ module _ (s : ℕ) (store : List ℕ) (loose : Bool) where
 
   -- A page from which a walk comes back to it by such pages is on a chain that does not end, and so is every page on the way.
   module _ (n p : ℕ) (round : Trail s store loose (suc n) p p) where
-    on-the-way : (allowed m q above entries : ℕ) → Trail s store loose m q p → 2 ≤ above → read_from s store loose allowed above entries q ≡ refused 5 []
-    on-the-way zero zero q above entries t h = none_left above entries q (rw t round.0.some)
-    on-the-way zero (suc m) q above entries t h = none_left above entries q t.0.some
-    on-the-way (suc allowed) zero q above entries t h =
+    on_the_way : (allowed m q above entries : ℕ) → Trail s store loose m q p → 2 ≤ above → read_from s store loose allowed above entries q ≡ refused 5 []
+    on_the_way zero zero q above entries t h = none_left above entries q (rw t round.0.some)
+    on_the_way zero (suc m) q above entries t h = none_left above entries q t.0.some
+    on_the_way (suc allowed) zero q above entries t h =
         subst (λ (x : ℕ). read_from s store loose (suc allowed) above entries x ≡ refused 5 []) (sym t)
-        (passable-chain (suc allowed) above entries p (omega arith) round.0 (fewer allowed _ _ _ (on-the-way allowed n (prev_of (page_at s store p)) (above + 1) (entries + count_of (page_at s store p)) round.1 (omega arith))) h)
-    on-the-way (suc allowed) (suc m) q above entries t h =
-        passable-chain (suc allowed) above entries q (omega arith) t.0 (fewer allowed _ _ _ (on-the-way allowed m (prev_of (page_at s store q)) (above + 1) (entries + count_of (page_at s store q)) t.1 (omega arith))) h
+        (passable_chain (suc allowed) above entries p (omega arith) round.0 (fewer allowed _ _ _ (on_the_way allowed n (prev_of (page_at s store p)) (above + 1) (entries + count_of (page_at s store p)) round.1 (omega arith))) h)
+    on_the_way (suc allowed) (suc m) q above entries t h =
+        passable_chain (suc allowed) above entries q (omega arith) t.0 (fewer allowed _ _ _ (on_the_way allowed m (prev_of (page_at s store q)) (above + 1) (entries + count_of (page_at s store q)) t.1 (omega arith))) h
 
   -- ---- the code's walk
 
@@ -73,7 +73,7 @@ module _ (s : ℕ) (store : List ℕ) (loose : Bool) where
       go (inr (k, deep, trail)) =
           let round : Trail s store loose (suc k) mark mark =
           subst (λ (x : ℕ). Trail s store loose (suc k) mark x) (sym p.before ∙ same) (trail_more k mark w.page trail (p.passable deep)) in
-          let ends = on-the-way k mark round n.allowed (suc k) mark n.pages n.entries round (omega (arith, p.more)) in
+          let ends = on_the_way k mark round n.allowed (suc k) mark n.pages n.entries round (omega (arith, p.more)) in
           rw (same, ends)
 
   -- a walk that goes on

@@ -137,9 +137,9 @@ pub shaped : (c P L : ℕ) → is_shape c P L ≡ true → Shaped c P L
 unfolding is_shape
 shaped c P L e = go (or-true (eqb P 0 && eqb L 0) (leb 1 L && (leb (c * (P - 1)) L && leb L (c * P))) e)
   where
-    page-more : (p : ℕ) → c * (p - 1) ≤ L → c * p ≤ L + c
-    page-more zero h = omega (arith, mul-zero c)
-    page-more (suc p) h = omega (arith, times_less c (suc p) (omega arith))
+    page_more : (p : ℕ) → c * (p - 1) ≤ L → c * p ≤ L + c
+    page_more zero h = omega (arith, mul-zero c)
+    page_more (suc p) h = omega (arith, times_less c (suc p) (omega arith))
 
     go : (eqb P 0 && eqb L 0 ≡ true) ⊎ (leb 1 L && (leb (c * (P - 1)) L && leb L (c * P)) ≡ true) → Shaped c P L
     go (inl x) =
@@ -152,7 +152,7 @@ shaped c P L e = go (or-true (eqb P 0 && eqb L 0) (leb 1 L && (leb (c * (P - 1))
         let u = and-true (leb (c * (P - 1)) L) (leb L (c * P)) t.1 in
         record {
           most = leb-true L (c * P) u.1;
-          least = page-more P (leb-true (c * (P - 1)) L u.0);
+          least = page_more P (leb-true (c * (P - 1)) L u.0);
           under = leb-true (c * (P - 1)) L u.0;
           none = λ z. absurd (omega (arith, leb-true 1 L t.0));
         }
@@ -160,11 +160,11 @@ shaped c P L e = go (or-true (eqb P 0 && eqb L 0) (leb 1 L && (leb (c * (P - 1))
 -- some entries, on as few pages as hold them or one more, are the shape
 pub bounds_shape : (c P L : ℕ) → 1 ≤ L → c * P ≤ L + c → L ≤ c * P → is_shape c P L ≡ true
 unfolding is_shape
-bounds_shape c P L some few most = rw (le-leb 1 L some, le-leb (c * (P - 1)) L (page-less P few), le-leb L (c * P) most) (or_true_right (eqb P 0 && eqb L 0))
+bounds_shape c P L some few most = rw (le-leb 1 L some, le-leb (c * (P - 1)) L (page_less P few), le-leb L (c * P) most) (or_true_right (eqb P 0 && eqb L 0))
   where
-    page-less : (n : ℕ) → c * n ≤ L + c → c * (n - 1) ≤ L
-    page-less zero h = rw (zero-sub 1, mul-zero) (omega arith)
-    page-less (suc n) h =
+    page_less : (n : ℕ) → c * n ≤ L + c → c * (n - 1) ≤ L
+    page_less zero h = rw (zero-sub 1, mul-zero) (omega arith)
+    page_less (suc n) h =
         let e : suc n - 1 ≡ n = omega arith in
         rw e (omega (arith, mul-suc c n))
 

@@ -1,7 +1,7 @@
 // A list page that is held: a struct with the lent bytes, whose methods read what stands on them.
 //
 // Nothing is asked of the bytes. A page shorter than its header has no previous page and no entries, and an entry that the page ends
-// before is nil. The functions over the struct are proved by hand; other callers take `header` and `entry`, whose parameters are plain.
+// before is nil. Callers outside take `header` and `entry`, whose parameters are plain.
 ghost use Rattle.std.specs.Prelude.{◌≡◌};
 ghost use Rattle.free_list.specs.ListPages.{prev_within, count_within, entry_within};
 

@@ -63,8 +63,8 @@ new_code S = record {
 module _ {M : Type 1} {𝓤 : Ura M} (𝓛 : Logic 𝓤) (S : Holder) where
   open 𝓛 use {H}
 
-  abbrev new-stayed : Stays (makes_held S).signature.params (makes_held S).kept
-  new-stayed = (stay_dropped (plain slice_row) yes, tt)
+  abbrev new_stayed : Stays (makes_held S).signature.params (makes_held S).kept
+  new_stayed = (stay_dropped (plain slice_row) yes, tt)
 
   module _ (κ : Lft) (q : Share) (s : Bor (List ℕ)) where
     abbrev made : Val
@@ -73,37 +73,37 @@ module _ {M : Type 1} {𝓤 : Ura M} (𝓛 : Logic 𝓤) (S : Holder) where
     abbrev new_entry : SProp 𝓤
     new_entry = on_entry 𝓛 (makes_held S).signature (κ, tt) (q, tt) (s, tt) (slice_is s ∷ [], tt)
 
-    abbrev new-post : Val → SProp 𝓤
-    new-post = (walk_of 𝓛 (makes_held S) new-stayed (new_says 𝓤 S)).post (((κ, tt), (q, tt), tt, (s, tt), (slice_is s ∷ [], tt)), tt)
+    abbrev new_post : Val → SProp 𝓤
+    new_post = (walk_of 𝓛 (makes_held S) new_stayed (new_says 𝓤 S)).post (((κ, tt), (q, tt), tt, (s, tt), (slice_is s ∷ [], tt)), tt)
 
-    abbrev slice-owns : Fml
-    slice-owns = owns (slice_row (κ, tt) ∷ []) (s, tt) (slice_is s ∷ [], tt)
+    abbrev slice_owns : Fml
+    slice_owns = owns (slice_row (κ, tt) ∷ []) (s, tt) (slice_is s ∷ [], tt)
 
     -- what the slice owns is what the struct owns
-    shut : ent 𝓤 (sem 𝓛 slice-owns) (sem 𝓛 ((held_row S (κ, tt)).own_val (S.make s) (made ∷ [])))
+    shut : ent 𝓤 (sem 𝓛 slice_owns) (sem 𝓛 ((held_row S (κ, tt)).own_val (S.make s) (made ∷ [])))
     shut =
-        subst (λ (x : Bor (List ℕ)). ent 𝓤 (sem 𝓛 slice-owns) (sem 𝓛 ((Struct (shape (held S (α (κ, tt))))).own_val (x, tt) (made ∷ [])))) (sym (S.kept s))
+        subst (λ (x : Bor (List ℕ)). ent 𝓤 (sem 𝓛 slice_owns) (sem 𝓛 ((Struct (shape (held S (α (κ, tt))))).own_val (x, tt) (made ∷ [])))) (sym (S.kept s))
         (own_shut 𝓛 (held S (α (κ, tt))) (laws S (α (κ, tt))) (s, tt))
 
-    new-exits : ent 𝓤 new_entry (new-post made)
-    new-exits =
-        qed 𝓛 ((‵ (flft κ q) ⊛ ‵ ftrue) ∷ ‵ slice-owns ∷ []) ∵
-        suffices ! _ (ends_at 𝓛 (makes_held S) new-stayed (new_says 𝓤 S) (((κ, tt), (q, tt), tt, (s, tt), (slice_is s ∷ [], tt)), tt) made (S.make s) (tt, tt) (tt, tt)) $ says ! (S.kept s) $
+    new_exits : ent 𝓤 new_entry (new_post made)
+    new_exits =
+        qed 𝓛 ((‵ (flft κ q) ⊛ ‵ ftrue) ∷ ‵ slice_owns ∷ []) ∵
+        suffices ! _ (ends_at 𝓛 (makes_held S) new_stayed (new_says 𝓤 S) (((κ, tt), (q, tt), tt, (s, tt), (slice_is s ∷ [], tt)), tt) made (S.make s) (tt, tt) (tt, tt)) $ says ! (S.kept s) $
         frame ! $ nothing ! $ nothing ! $ fjoin ! $ frame ! $ by ! shut
 
-    new-walk : (C : Calls 𝓤 H) (Λ : Loops 𝓤 H) → Is (slice_row (κ, tt)) s (slice_is s ∷ []) → ent 𝓤 new_entry (WpFn 𝓤 H C Λ (new_code S) (slice_is s ∷ []) new-post)
-    new-walk C Λ p =
+    new_walk : (C : Calls 𝓤 H) (Λ : Loops 𝓤 H) → Is (slice_row (κ, tt)) s (slice_is s ∷ []) → ent 𝓤 new_entry (WpFn 𝓤 H C Λ (new_code S) (slice_is s ∷ []) new_post)
+    new_walk C Λ p =
         let wt = ((shr_slice_Lawful 𝓛 (named 0) κ u8).typed s (slice_is s ∷ []) p).0 in
         qed 𝓛 (raw new_entry ∷ []) ∵ enter ! C Λ (new_code S) (slice_is s ∷ []) _ $
         alloc1 ! (λ l₀. alloc1 ! (λ l₁. alloc0 ! $ params1 ! $ pass1 ! (init ! 0 refl wt) $ pass0 ! $
         assigns ! (agg ! (and_then ! (load ! (from ! (stop !)) (look ! 0 refl)) (no_more !))) (from ! (stop !)) (init ! 2 refl (tt, (wt.1, tt))) $
-        returns ! (look ! 2 refl) $ forget ! 0 refl $ forget ! 2 refl $ move ! (2 ∷ 3 ∷ []) $ free1 ! $ free1 ! $ free0 ! $ by ! new-exits))
+        returns ! (look ! 2 refl) $ forget ! 0 refl $ forget ! 2 refl $ move ! (2 ∷ 3 ∷ []) $ free1 ! $ free1 ! $ free0 ! $ by ! new_exits))
 
   pub new_meets : (𝓣 : Tables 𝓤 H) → Meets 𝓛 (makes_held S).signature (WpFn 𝓤 H 𝓣.C 𝓣.Λ (new_code S)) (closing 𝓛 (makes_held S) (new_says 𝓤 S))
   new_meets 𝓣 =
-      walk_Meets 𝓛 (makes_held S) new-stayed (Goes-dropped 𝓛 1 (plain slice_row) yes (λ κs x f. refl), tt) (new_says 𝓤 S) _ (WpFn-mono 𝓤 H 𝓛.laws 𝓣 (new_code S))
-      (walked 𝓛 (makes_held S) new-stayed (new_says 𝓤 S) (WpFn 𝓤 H 𝓣.C 𝓣.Λ (new_code S)) (λ κs. (shr_slice_vals, tt)) (λ κs. (shr_slice_Tells (named 0) κs.0 u8, tt))
-      (λ κs qs bounds a g are. via 𝓤 _ (fst∗ 𝓤 _ (emp 𝓤)) (new-walk κs.0 qs.0 a.0 𝓣.C 𝓣.Λ are.0)))
+      walk_Meets 𝓛 (makes_held S) new_stayed (Goes-dropped 𝓛 1 (plain slice_row) yes (λ κs x f. refl), tt) (new_says 𝓤 S) _ (WpFn-mono 𝓤 H 𝓛.laws 𝓣 (new_code S))
+      (walked 𝓛 (makes_held S) new_stayed (new_says 𝓤 S) (WpFn 𝓤 H 𝓣.C 𝓣.Λ (new_code S)) (λ κs. (shr_slice_vals, tt)) (λ κs. (shr_slice_Tells (named 0) κs.0 u8, tt))
+      (λ κs qs bounds a g are. via 𝓤 _ (fst∗ 𝓤 _ (emp 𝓤)) (new_walk κs.0 qs.0 a.0 𝓣.C 𝓣.Λ are.0)))
 
 -- ---- a method: `f(self.0)`
 
@@ -121,21 +121,21 @@ method_code S R f = record {
 module _ {M : Type 1} {𝓤 : Ura M} (𝓛 : Logic 𝓤) (S : Holder) (R : Answer) (φ : Says R) (f : Callee) where
   open 𝓛 use {H}
 
-  abbrev method-stayed : Stays (of_held S R).signature.params (of_held S R).kept
-  method-stayed = (stay_dropped (plain (held_row S)) yes, tt)
+  abbrev method_stayed : Stays (of_held S R).signature.params (of_held S R).kept
+  method_stayed = (stay_dropped (plain (held_row S)) yes, tt)
 
   module _ (κ : Lft) (q : Share) (d : S.D) where
-    abbrev method-entry : SProp 𝓤
-    method-entry = on_entry 𝓛 (of_held S R).signature (κ, tt) (q, tt) (d, tt) (held_is S d ∷ [], tt)
+    abbrev method_entry : SProp 𝓤
+    method_entry = on_entry 𝓛 (of_held S R).signature (κ, tt) (q, tt) (d, tt) (held_is S d ∷ [], tt)
 
-    abbrev method-post : Val → SProp 𝓤
-    method-post = (walk_of 𝓛 (of_held S R) method-stayed (held_says 𝓤 S R φ)).post (((κ, tt), (q, tt), tt, (d, tt), (held_is S d ∷ [], tt)), tt)
+    abbrev method_post : Val → SProp 𝓤
+    method_post = (walk_of 𝓛 (of_held S R) method_stayed (held_says 𝓤 S R φ)).post (((κ, tt), (q, tt), tt, (d, tt), (held_is S d ∷ [], tt)), tt)
 
     -- what the callee is passed; what it asks is what the struct owns
     abbrev to : (OfSlice 𝓤 𝓛 R φ).Ghost
     to = (((κ, tt), (q, tt), tt, (S.page d, tt), (slice_is (S.page d) ∷ [], tt)), tt)
 
-    apart : ent 𝓤 method-entry ((OfSlice 𝓤 𝓛 R φ).pre to)
+    apart : ent 𝓤 method_entry ((OfSlice 𝓤 𝓛 R φ).pre to)
     apart =
         qed 𝓛 ((‵ (flft κ q) ⊛ ‵ ftrue) ∷ ‵ (owns (held_row S (κ, tt) ∷ []) (d, tt) (held_is S d ∷ [], tt)) ∷ []) ∵ move ! (1 ∷ []) $ fsplit ! $ move ! (1 ∷ []) $ drop ! $
         use1 𝓛 (given (held_is S d ∷ [] ≡ held_is S d ∷ []) (‵ (all_own (held S (α (κ, tt))).parts (laws S (α (κ, tt))) (S.page d, tt)))) (own_open 𝓛 (held S (α (κ, tt))) (laws S (α (κ, tt))) (S.page d, tt) (held_is S d)) $ learn ! (λ _.
@@ -151,16 +151,16 @@ module _ {M : Type 1} {𝓤 : Ura M} (𝓛 : Logic 𝓤) (S : Holder) (R : Answe
     said : (r : (R.row (κ, tt)).Denot) → ent 𝓤 (Ensured r) (fact 𝓤 (Clause r))
     said r = ex_e 𝓤 _ (λ ws. snd∗ 𝓤 (sem 𝓛 (lasts (of_slice R) (κ, tt) (S.page d, tt) ws)) (fact 𝓤 (Clause r)))
 
-    method-exits : (r : (R.row (κ, tt)).Denot) (u : Val) → Clause r → ent 𝓤 (⋆ 𝓛 (‵ ((R.row (κ, tt)).own_val r (u ∷ [])) ∷ (‵ (flft κ q) ⊛ ‵ ftrue) ∷ [])) (method-post u)
-    method-exits r u e =
+    method_exits : (r : (R.row (κ, tt)).Denot) (u : Val) → Clause r → ent 𝓤 (⋆ 𝓛 (‵ ((R.row (κ, tt)).own_val r (u ∷ [])) ∷ (‵ (flft κ q) ⊛ ‵ ftrue) ∷ [])) (method_post u)
+    method_exits r u e =
         qed 𝓛 (‵ ((R.row (κ, tt)).own_val r (u ∷ [])) ∷ (‵ (flft κ q) ⊛ ‵ ftrue) ∷ []) ∵
-        suffices ! _ (ends_at 𝓛 (of_held S R) method-stayed (held_says 𝓤 S R φ) (((κ, tt), (q, tt), tt, (d, tt), (held_is S d ∷ [], tt)), tt) u r (tt, tt) (tt, tt)) $ says ! e $
+        suffices ! _ (ends_at 𝓛 (of_held S R) method_stayed (held_says 𝓤 S R φ) (((κ, tt), (q, tt), tt, (d, tt), (held_is S d ∷ [], tt)), tt) u r (tt, tt) (tt, tt)) $ says ! e $
         move ! (1 ∷ []) $ frame ! $ nothing ! $ nothing ! $ fjoin ! $ done !
 
-    method-walk : (C : Calls 𝓤 H) (Λ : Loops 𝓤 H) → FmC 𝓤 H 𝓛.laws C → Triple 𝓤 (C f) (OfSlice 𝓤 𝓛 R φ) → Holds (has_ty (held_ty S (named 0)) (held_is S d)) × WT (held_is S d)
-        → ent 𝓤 method-entry (WpFn 𝓤 H C Λ (method_code S R f) (held_is S d ∷ []) method-post)
-    method-walk C Λ fm known wt =
-        qed 𝓛 (raw method-entry ∷ []) ∵ enter ! C Λ (method_code S R f) (held_is S d ∷ []) _ $
+    method_walk : (C : Calls 𝓤 H) (Λ : Loops 𝓤 H) → FmC 𝓤 H 𝓛.laws C → Triple 𝓤 (C f) (OfSlice 𝓤 𝓛 R φ) → Holds (has_ty (held_ty S (named 0)) (held_is S d)) × WT (held_is S d)
+        → ent 𝓤 method_entry (WpFn 𝓤 H C Λ (method_code S R f) (held_is S d ∷ []) method_post)
+    method_walk C Λ fm known wt =
+        qed 𝓛 (raw method_entry ∷ []) ∵ enter ! C Λ (method_code S R f) (held_is S d ∷ []) _ $
         alloc1 ! (λ l₀. alloc1 ! (λ l₁. alloc1 ! (λ l₂. alloc0 ! $ params1 ! $ pass1 ! (init ! 2 refl wt) $ pass0 ! $
         assigns ! (of_opd ! (load ! (from ! (fld ! refl (stop !))) (look_in ! 2 (sub ! 0 refl (whole !))))) (from ! (stop !)) (init ! 0 refl (tt, wt.1.0)) $
         move ! (6 ∷ []) $ use1 𝓛 (raw ((OfSlice 𝓤 𝓛 R φ).pre to)) apart $
@@ -171,15 +171,15 @@ module _ {M : Type 1} {𝓤 : Ura M} (𝓛 : Logic 𝓤) (S : Holder) (R : Answe
         peeks ! (R.row (κ, tt)) (Is (R.row (κ, tt))) (shows 𝓛 (R.row (κ, tt))) r (u ∷ []) (λ is.
         land ! (from ! (stop !)) (init ! 6 refl (R.typed 𝓛 (κ, tt) r u is)) $
         returns ! (look ! 6 refl) $ forget ! 2 refl $ forget ! 4 refl $ forget ! 6 refl $
-        move ! (6 ∷ 7 ∷ []) $ free1 ! $ move ! (4 ∷ 5 ∷ []) $ free1 ! $ move ! (2 ∷ 3 ∷ []) $ free1 ! $ free0 ! $ by ! (method-exits r u e))))))))
+        move ! (6 ∷ 7 ∷ []) $ free1 ! $ move ! (4 ∷ 5 ∷ []) $ free1 ! $ move ! (2 ∷ 3 ∷ []) $ free1 ! $ free0 ! $ by ! (method_exits r u e))))))))
 
   pub method_meets : (𝓣 : Tables 𝓤 H) → Triple 𝓤 (𝓣.C f) (OfSlice 𝓤 𝓛 R φ)
       → Meets 𝓛 (of_held S R).signature (WpFn 𝓤 H 𝓣.C 𝓣.Λ (method_code S R f)) (closing 𝓛 (of_held S R) (held_says 𝓤 S R φ))
   method_meets 𝓣 known =
-      walk_Meets 𝓛 (of_held S R) method-stayed (Goes-dropped 𝓛 1 (plain (held_row S)) yes (λ κs x f. refl), tt) (held_says 𝓤 S R φ) _ (WpFn-mono 𝓤 H 𝓛.laws 𝓣 (method_code S R f))
-      (walked 𝓛 (of_held S R) method-stayed (held_says 𝓤 S R φ) (WpFn 𝓤 H 𝓣.C 𝓣.Λ (method_code S R f)) (λ κs. (LL.vals (held S (α κs)) (laws S (α κs)), tt)) (λ κs. (LL.tells (held S (α κs)) (laws S (α κs)), tt))
+      walk_Meets 𝓛 (of_held S R) method_stayed (Goes-dropped 𝓛 1 (plain (held_row S)) yes (λ κs x f. refl), tt) (held_says 𝓤 S R φ) _ (WpFn-mono 𝓤 H 𝓛.laws 𝓣 (method_code S R f))
+      (walked 𝓛 (of_held S R) method_stayed (held_says 𝓤 S R φ) (WpFn 𝓤 H 𝓣.C 𝓣.Λ (method_code S R f)) (λ κs. (LL.vals (held S (α κs)) (laws S (α κs)), tt)) (λ κs. (LL.tells (held S (α κs)) (laws S (α κs)), tt))
       (λ κs qs bounds a g are. via 𝓤 _ (fst∗ 𝓤 _ (emp 𝓤))
-      (method-walk κs.0 qs.0 a.0 𝓣.C 𝓣.Λ (fm_of 𝓤 H 𝓛.laws 𝓣) known ((LL.lawful (held S (α κs)) (laws S (α κs)) 𝓛).typed a.0 _ are.0).0)))
+      (method_walk κs.0 qs.0 a.0 𝓣.C 𝓣.Λ (fm_of 𝓤 H 𝓛.laws 𝓣) known ((LL.lawful (held S (α κs)) (laws S (α κs)) 𝓛).typed a.0 _ are.0).0)))
 
 -- ---- a method with a place: `f(self.0, i)`
 
@@ -201,21 +201,21 @@ module _ {M : Type 1} {𝓤 : Ura M} (𝓛 : Logic 𝓤) (S : Holder) (R : Answe
   place_stayed = (stay_dropped (plain (held_row S)) yes, (stay_dropped (plain (λ κs. usize)) yes, tt))
 
   module _ (κ : Lft) (q : Share) (d : S.D) (i : ℕ) where
-    abbrev place-vals : List Val × (List Val × Unit {0})
-    place-vals = (held_is S d ∷ [], (vint w64 i ∷ [], tt))
+    abbrev place_vals : List Val × (List Val × Unit {0})
+    place_vals = (held_is S d ∷ [], (vint w64 i ∷ [], tt))
 
-    abbrev place-entry : SProp 𝓤
-    place-entry = on_entry 𝓛 (of_held_at S R).signature (κ, tt) (q, tt) (d, (i, tt)) place-vals
+    abbrev place_entry : SProp 𝓤
+    place_entry = on_entry 𝓛 (of_held_at S R).signature (κ, tt) (q, tt) (d, (i, tt)) place_vals
 
-    abbrev place-post : Val → SProp 𝓤
-    place-post = (walk_of 𝓛 (of_held_at S R) place_stayed (held_says_at 𝓤 S R φ)).post (((κ, tt), (q, tt), tt, (d, (i, tt)), place-vals), tt)
+    abbrev place_post : Val → SProp 𝓤
+    place_post = (walk_of 𝓛 (of_held_at S R) place_stayed (held_says_at 𝓤 S R φ)).post (((κ, tt), (q, tt), tt, (d, (i, tt)), place_vals), tt)
 
-    abbrev to-place : (OfSliceAt 𝓤 𝓛 R φ).Ghost
-    to-place = (((κ, tt), (q, tt), tt, (S.page d, (i, tt)), (slice_is (S.page d) ∷ [], (vint w64 i ∷ [], tt))), tt)
+    abbrev to_place : (OfSliceAt 𝓤 𝓛 R φ).Ghost
+    to_place = (((κ, tt), (q, tt), tt, (S.page d, (i, tt)), (slice_is (S.page d) ∷ [], (vint w64 i ∷ [], tt))), tt)
 
-    place-apart : ent 𝓤 place-entry ((OfSliceAt 𝓤 𝓛 R φ).pre to-place)
-    place-apart =
-        qed 𝓛 ((‵ (flft κ q) ⊛ ‵ ftrue) ∷ ‵ (owns (held_row S (κ, tt) ∷ usize ∷ []) (d, (i, tt)) place-vals) ∷ []) ∵ move ! (1 ∷ []) $ fsplit ! $
+    place_apart : ent 𝓤 place_entry ((OfSliceAt 𝓤 𝓛 R φ).pre to_place)
+    place_apart =
+        qed 𝓛 ((‵ (flft κ q) ⊛ ‵ ftrue) ∷ ‵ (owns (held_row S (κ, tt) ∷ usize ∷ []) (d, (i, tt)) place_vals) ∷ []) ∵ move ! (1 ∷ []) $ fsplit ! $
         use1 𝓛 (given (held_is S d ∷ [] ≡ held_is S d ∷ []) (‵ (all_own (held S (α (κ, tt))).parts (laws S (α (κ, tt))) (S.page d, tt)))) (own_open 𝓛 (held S (α (κ, tt))) (laws S (α (κ, tt))) (S.page d, tt) (held_is S d)) $ learn ! (λ _.
         -- [what the slice owns; true; what i owns; the token]
         fsplit ! $ move ! (1 ∷ []) $ drop ! $ fjoin ! $ move ! (1 ∷ 0 ∷ []) $ join ! $ frame ! $ done !)
@@ -226,30 +226,30 @@ module _ {M : Type 1} {𝓤 : Ura M} (𝓛 : Logic 𝓤) (S : Holder) (R : Answe
     abbrev PlaceEnsured : (R.row (κ, tt)).Denot → SProp 𝓤
     PlaceEnsured r = ensured 𝓛 (of_slice_at R) (slice_says_at 𝓤 R φ) (κ, tt) (S.page d, (i, tt)) tt r
 
-    place-said : (r : (R.row (κ, tt)).Denot) → ent 𝓤 (PlaceEnsured r) (fact 𝓤 (PlaceClause r))
-    place-said r = ex_e 𝓤 _ (λ ws. snd∗ 𝓤 (sem 𝓛 (lasts (of_slice_at R) (κ, tt) (S.page d, (i, tt)) ws)) (fact 𝓤 (PlaceClause r)))
+    place_said : (r : (R.row (κ, tt)).Denot) → ent 𝓤 (PlaceEnsured r) (fact 𝓤 (PlaceClause r))
+    place_said r = ex_e 𝓤 _ (λ ws. snd∗ 𝓤 (sem 𝓛 (lasts (of_slice_at R) (κ, tt) (S.page d, (i, tt)) ws)) (fact 𝓤 (PlaceClause r)))
 
-    place-exits : (r : (R.row (κ, tt)).Denot) (u : Val) → PlaceClause r → ent 𝓤 (⋆ 𝓛 (‵ ((R.row (κ, tt)).own_val r (u ∷ [])) ∷ (‵ (flft κ q) ⊛ ‵ ftrue) ∷ [])) (place-post u)
-    place-exits r u e =
+    place_exits : (r : (R.row (κ, tt)).Denot) (u : Val) → PlaceClause r → ent 𝓤 (⋆ 𝓛 (‵ ((R.row (κ, tt)).own_val r (u ∷ [])) ∷ (‵ (flft κ q) ⊛ ‵ ftrue) ∷ [])) (place_post u)
+    place_exits r u e =
         qed 𝓛 (‵ ((R.row (κ, tt)).own_val r (u ∷ [])) ∷ (‵ (flft κ q) ⊛ ‵ ftrue) ∷ []) ∵
-        suffices ! _ (ends_at 𝓛 (of_held_at S R) place_stayed (held_says_at 𝓤 S R φ) (((κ, tt), (q, tt), tt, (d, (i, tt)), place-vals), tt) u r (tt, (tt, tt)) (tt, (tt, tt))) $ says ! e $
+        suffices ! _ (ends_at 𝓛 (of_held_at S R) place_stayed (held_says_at 𝓤 S R φ) (((κ, tt), (q, tt), tt, (d, (i, tt)), place_vals), tt) u r (tt, (tt, tt)) (tt, (tt, tt))) $ says ! e $
         move ! (1 ∷ []) $ frame ! $ nothing ! $ nothing ! $ fjoin ! $ nothing ! $ fjoin ! $ done !
 
-    place-walk : (C : Calls 𝓤 H) (Λ : Loops 𝓤 H) → FmC 𝓤 H 𝓛.laws C → Triple 𝓤 (C f) (OfSliceAt 𝓤 𝓛 R φ) → Holds (has_ty (held_ty S (named 0)) (held_is S d)) × WT (held_is S d) → i < 2 ^ 64
-        → ent 𝓤 place-entry (WpFn 𝓤 H C Λ (place_method_code S R f) (held_is S d ∷ vint w64 i ∷ []) place-post)
-    place-walk C Λ fm known wt fits =
-        qed 𝓛 (raw place-entry ∷ []) ∵ enter ! C Λ (place_method_code S R f) (held_is S d ∷ vint w64 i ∷ []) _ $
+    place_walk : (C : Calls 𝓤 H) (Λ : Loops 𝓤 H) → FmC 𝓤 H 𝓛.laws C → Triple 𝓤 (C f) (OfSliceAt 𝓤 𝓛 R φ) → Holds (has_ty (held_ty S (named 0)) (held_is S d)) × WT (held_is S d) → i < 2 ^ 64
+        → ent 𝓤 place_entry (WpFn 𝓤 H C Λ (place_method_code S R f) (held_is S d ∷ vint w64 i ∷ []) place_post)
+    place_walk C Λ fm known wt fits =
+        qed 𝓛 (raw place_entry ∷ []) ∵ enter ! C Λ (place_method_code S R f) (held_is S d ∷ vint w64 i ∷ []) _ $
         alloc1 ! (λ l₀. alloc1 ! (λ l₁. alloc1 ! (λ l₂. alloc1 ! (λ l₃. alloc0 ! $ params1 ! $ pass1 ! (init ! 4 refl wt) $ pass1 ! (init ! 2 refl (tt, record { fits = fits })) $ pass0 ! $
         assigns ! (of_opd ! (load ! (from ! (fld ! refl (stop !))) (look_in ! 4 (sub ! 0 refl (whole !))))) (from ! (stop !)) (init ! 0 refl (tt, wt.1.0)) $
-        move ! (8 ∷ []) $ use1 𝓛 (raw ((OfSliceAt 𝓤 𝓛 R φ).pre to-place)) place-apart $
-        calls_at ! fm (OfSliceAt 𝓤 𝓛 R φ) known to-place (and_then ! (load ! (from ! (stop !)) (look ! 1 refl)) (and_then ! (load ! (from ! (stop !)) (look ! 3 refl)) (no_more !))) (λ u.
+        move ! (8 ∷ []) $ use1 𝓛 (raw ((OfSliceAt 𝓤 𝓛 R φ).pre to_place)) place_apart $
+        calls_at ! fm (OfSliceAt 𝓤 𝓛 R φ) known to_place (and_then ! (load ! (from ! (stop !)) (look ! 1 refl)) (and_then ! (load ! (from ! (stop !)) (look ! 3 refl)) (no_more !))) (λ u.
         use1 𝓛 (later (some (λ (r : (R.row (κ, tt)).Denot). ((‵ (flft κ q) ⊛ ‵ ftrue) ⊛ ‵ ((R.row (κ, tt)).own_val r (u ∷ []))) ⊛ raw (PlaceEnsured r)))) (id⊢ 𝓤 _) $ await ! tt $ pick ! (λ r.
-        split ! $ move ! (1 ∷ []) $ use1 𝓛 (raw (fact 𝓤 (PlaceClause r))) (place-said r) $ heard ! (PlaceClause r) (λ e. split ! $ move ! (1 ∷ []) $
+        split ! $ move ! (1 ∷ []) $ use1 𝓛 (raw (fact 𝓤 (PlaceClause r))) (place_said r) $ heard ! (PlaceClause r) (λ e. split ! $ move ! (1 ∷ []) $
         -- [the result; the token; _3; …; _2; …; _1; …; room for _0; …]
         peeks ! (R.row (κ, tt)) (Is (R.row (κ, tt))) (shows 𝓛 (R.row (κ, tt))) r (u ∷ []) (λ is.
         land ! (from ! (stop !)) (init ! 8 refl (R.typed 𝓛 (κ, tt) r u is)) $
         returns ! (look ! 8 refl) $ forget ! 2 refl $ forget ! 4 refl $ forget ! 6 refl $ forget ! 8 refl $
-        move ! (8 ∷ 9 ∷ []) $ free1 ! $ move ! (6 ∷ 7 ∷ []) $ free1 ! $ move ! (4 ∷ 5 ∷ []) $ free1 ! $ move ! (2 ∷ 3 ∷ []) $ free1 ! $ free0 ! $ by ! (place-exits r u e)))))))))
+        move ! (8 ∷ 9 ∷ []) $ free1 ! $ move ! (6 ∷ 7 ∷ []) $ free1 ! $ move ! (4 ∷ 5 ∷ []) $ free1 ! $ move ! (2 ∷ 3 ∷ []) $ free1 ! $ free0 ! $ by ! (place_exits r u e)))))))))
 
   pub place_method_meets : (𝓣 : Tables 𝓤 H) → Triple 𝓤 (𝓣.C f) (OfSliceAt 𝓤 𝓛 R φ)
       → Meets 𝓛 (of_held_at S R).signature (WpFn 𝓤 H 𝓣.C 𝓣.Λ (place_method_code S R f)) (closing 𝓛 (of_held_at S R) (held_says_at 𝓤 S R φ))
@@ -257,4 +257,4 @@ module _ {M : Type 1} {𝓤 : Ura M} (𝓛 : Logic 𝓤) (S : Holder) (R : Answe
       walk_Meets 𝓛 (of_held_at S R) place_stayed (Goes-dropped 𝓛 1 (plain (held_row S)) yes (λ κs x f. refl), (Goes-dropped 𝓛 1 (plain (λ κs. usize)) yes (λ κs x f. refl), tt)) (held_says_at 𝓤 S R φ) _ (WpFn-mono 𝓤 H 𝓛.laws 𝓣 (place_method_code S R f))
       (walked 𝓛 (of_held_at S R) place_stayed (held_says_at 𝓤 S R φ) (WpFn 𝓤 H 𝓣.C 𝓣.Λ (place_method_code S R f)) (λ κs. (LL.vals (held S (α κs)) (laws S (α κs)), (uint_vals w64, tt))) (λ κs. (LL.tells (held S (α κs)) (laws S (α κs)), (uint_Tells w64, tt)))
       (λ κs qs bounds a g are. via 𝓤 _ (fst∗ 𝓤 _ (emp 𝓤))
-      (place-walk κs.0 qs.0 a.0 a.1.0 𝓣.C 𝓣.Λ (fm_of 𝓤 H 𝓛.laws 𝓣) known ((LL.lawful (held S (α κs)) (laws S (α κs)) 𝓛).typed a.0 _ are.0).0 are.1.0.1)))
+      (place_walk κs.0 qs.0 a.0 a.1.0 𝓣.C 𝓣.Λ (fm_of 𝓤 H 𝓛.laws 𝓣) known ((LL.lawful (held S (α κs)) (laws S (α κs)) 𝓛).typed a.0 _ are.0).0 are.1.0.1)))

@@ -79,7 +79,7 @@ module _ (s : ℕ) (cell : List ℕ) (numbers bytes : ℕ) where
       let cell-is : w.0 ≡ cell_of cell = sym (unanswer z.1) ∙ d.1 in
       let needs_are : needs_of s (cell_of cell) ≡ needs = ap (needs_of s) (sym cell-is) ∙ unanswer w.2 in
       let size_is : (cell_of cell).size ≡ needs.size = ap (λ (n : ValueNeeds). n.size) needs_are in
-      let total-is : total_pages s (cell_of cell).size ≡ needs.total = ap (λ (n : ValueNeeds). n.total) needs_are in
+      let total_is : total_pages s (cell_of cell).size ≡ needs.total = ap (λ (n : ValueNeeds). n.total) needs_are in
       let both = and-true (numbers_room s numbers (cell_of cell)) (bytes_room bytes (cell_of cell)) (ap room (sym d.1) ∙ z.0) in
       record {
         is = w.1 ∙ ap answer cell-is;
@@ -87,8 +87,8 @@ module _ (s : ℕ) (cell : List ℕ) (numbers bytes : ℕ) where
           needs_are = needs_are;
           long = omega (arith, d.0.long);
           walkable = record {
-            few = omega (arith, total_few (cell_of cell).size page d.0.few, total-is);
-            room = omega (arith, leb-true (total_pages s (cell_of cell).size) numbers both.0, total-is, long);
+            few = omega (arith, total_few (cell_of cell).size page d.0.few, total_is);
+            room = omega (arith, leb-true (total_pages s (cell_of cell).size) numbers both.0, total_is, long);
           };
         };
         value = omega (arith, leb-true (cell_of cell).size bytes both.1, size_is);
@@ -97,10 +97,10 @@ module _ (s : ℕ) (cell : List ℕ) (numbers bytes : ℕ) where
 -- where there is room for the largest value, no room is asked for the bytes
 pub room_for_largest : (s : ℕ) (cell : List ℕ) (numbers : ℕ) → admitted s (λ c. numbers_room s numbers c && bytes_room (max_size s) c) cell ≡ admitted s (numbers_room s numbers) cell
 unfolding admitted
-room_for_largest s cell numbers = by-cell (decode_cell s cell) (λ c e. let d = decoded s cell e in omega (arith, ap (λ (c : Cell). c.size) d.1, d.0.few))
+room_for_largest s cell numbers = by_cell (decode_cell s cell) (λ c e. let d = decoded s cell e in omega (arith, ap (λ (c : Cell). c.size) d.1, d.0.few))
   where
-    by-cell : (o : Outcome Cell) → ((c : Cell) → o ≡ answer c → c.size ≤ max_size s)
+    by_cell : (o : Outcome Cell) → ((c : Cell) → o ≡ answer c → c.size ≤ max_size s)
         → with_answer (λ c. check (leb 1 c.size) 10 [] (check (numbers_room s numbers c && bytes_room (max_size s) c) 13 [] (answer c))) o
         ≡ with_answer (λ c. check (leb 1 c.size) 10 [] (check (numbers_room s numbers c) 13 [] (answer c))) o
-    by-cell (answer c) few = rw (le-leb c.size (max_size s) (few c refl), and-true_right (numbers_room s numbers c))
-    by-cell (refused n vs) few = refl
+    by_cell (answer c) few = rw (le-leb c.size (max_size s) (few c refl), and-true_right (numbers_room s numbers c))
+    by_cell (refused n vs) few = refl

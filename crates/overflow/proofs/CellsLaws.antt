@@ -111,15 +111,15 @@ module _ (s : ℕ) (b : List ℕ) where
 -- ---- what is encoded is decoded again
 
 module _ (s : ℕ) (c : Cell) (few : c.size ≤ max_size s) (hash : length c.hash ≡ hash_size) where
-  size-encoded : cell_size (cell_bytes c) ≡ c.size
+  size_encoded : cell_size (cell_bytes c) ≡ c.size
   unfolding cell_size cell_bytes
-  size-encoded =
+  size_encoded =
       number_at_append-left 8 (bytes_of 8 c.size) (c.hash ++ bytes_of_all 4 c.numbers) 0 (omega (arith, length_bytes_of 8 c.size))
       ∙ number_at_bytes_of 8 c.size (omega (arith, max_size_lem s))
 
-  hash-encoded : take hash_size (drop 8 (cell_bytes c)) ≡ c.hash
+  hash_encoded : take hash_size (drop 8 (cell_bytes c)) ≡ c.hash
   unfolding cell_bytes
-  hash-encoded =
+  hash_encoded =
       ap (take hash_size) (drop_at (bytes_of 8 c.size) (c.hash ++ bytes_of_all 4 c.numbers) 8 (length_bytes_of 8 c.size))
       ∙ take_at c.hash (bytes_of_all 4 c.numbers) hash_size hash
 
@@ -128,9 +128,9 @@ module _ (s : ℕ) (c : Cell) (few : c.size ≤ max_size s) (hash : length c.has
   count_encoded = rw (length-cell_bytes c hash) (omega arith)
 
   module _ (fit : (n : ℕ) → Memᴰ n c.numbers → n < 256 ^ 4) where
-    numbers-encoded : numbers_at 4 (cell_bytes c) cell_header (cell_count (cell_bytes c)) ≡ c.numbers
+    numbers_encoded : numbers_at 4 (cell_bytes c) cell_header (cell_count (cell_bytes c)) ≡ c.numbers
     unfolding cell_bytes
-    numbers-encoded =
+    numbers_encoded =
         ap (numbers_at 4 (cell_bytes c) cell_header) count_encoded
         ∙ numbers_at_same 4 (cell_bytes c) (bytes_of_all 4 c.numbers ++ []) cell_header 0 (length c.numbers) behind
         ∙ numbers_at-bytes_of_all 4 c.numbers [] fit
@@ -142,14 +142,14 @@ module _ (s : ℕ) (c : Cell) (few : c.size ≤ max_size s) (hash : length c.has
             let e : cell_header + k ≡ length A + (length c.hash + k) = omega (arith, length_bytes_of 8 c.size) in
             rw (e, zero-add k, append-nil N) (get_or-append-add A (c.hash ++ N) (length c.hash + k) 0 ∙ get_or-append-add c.hash N k 0)
 
-    cell-encoded : cell_of (cell_bytes c) ≡ c
+    cell_encoded : cell_of (cell_bytes c) ≡ c
     unfolding cell_of
-    cell-encoded = λ i. record { size = size-encoded i; hash = hash-encoded i; numbers = numbers-encoded i }
+    cell_encoded = λ i. record { size = size_encoded i; hash = hash_encoded i; numbers = numbers_encoded i }
 
     -- a cell with a number or more is read back
     pub decode-encoded : 1 ≤ length c.numbers → decode_cell s (cell_bytes c) ≡ answer c
     unfolding decode_cell
     decode-encoded some =
         let long = length-cell_bytes c hash in
-        rw (le-leb (cell_header + 4) (length (cell_bytes c)) (omega arith), eq-eqb (length (cell_bytes c) % 4) 0 (omega arith), le-leb (cell_size (cell_bytes c)) (max_size s) (omega (arith, size-encoded)))
-        (ap answer cell-encoded)
+        rw (le-leb (cell_header + 4) (length (cell_bytes c)) (omega arith), eq-eqb (length (cell_bytes c) % 4) 0 (omega arith), le-leb (cell_size (cell_bytes c)) (max_size s) (omega (arith, size_encoded)))
+        (ap answer cell_encoded)

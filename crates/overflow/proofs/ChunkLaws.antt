@@ -32,34 +32,34 @@ module _ {s total i : ℕ} (page : IsPageSize s) (this : IsPageOf s total i) whe
 
   module _ {cell : ℕ} (e : cell ≡ min total cell_numbers) where
     -- as many past the cell's as past the 15th
-    past-cell : total - cell ≡ total - cell_numbers
-    past-cell = omega arith
+    past_cell : total - cell ≡ total - cell_numbers
+    past_cell = omega arith
 
     -- the numbers of the page
     pub numbers-part : {before count : ℕ} → before ≡ min (total - cell) (numbers_per_page s * i) → count ≡ min (numbers_per_page s) (total - cell - before)
         → record { from = cell + before; count = count } ≡ numbers_part s total i
     unfolding numbers_part numbers_on
     numbers-part {before} f g =
-        let is : before ≡ numbers_before s total i = f ∙ rw (past-cell, numbers_before_is total page i) in
-        rw (g, past-cell, is, e)
+        let is : before ≡ numbers_before s total i = f ∙ rw (past_cell, numbers_before_is total page i) in
+        rw (g, past_cell, is, e)
 
     -- the bytes of the page
-    numbers-before : (numbers_part s total i).from - cell ≡ numbers_before s total i
+    numbers_before_lem : (numbers_part s total i).from - cell ≡ numbers_before s total i
     unfolding numbers_part
-    numbers-before = omega arith
+    numbers_before_lem = omega arith
 
     pub numbers-behind : cell ≤ (numbers_part s total i).from
     unfolding numbers_part
     numbers-behind = omega arith
 
     pub numbers-room : 4 * ((numbers_part s total i).from - cell) ≤ body s * i
-    numbers-room = rw numbers-before (numbers_fit total page i)
+    numbers-room = rw numbers_before_lem (numbers_fit total page i)
 
     pub bytes-part : (size : ℕ) {from count : ℕ} → from ≡ min size (body s * i - 4 * ((numbers_part s total i).from - cell))
         → count ≡ min (body s - 4 * (numbers_part s total i).count) (size - from) → record { from = from; count = count } ≡ bytes_part s total size i
     unfolding numbers_part bytes_part bytes_on
     bytes-part size {from} f g =
-        let is : from ≡ bytes_before s total size i = f ∙ rw (numbers-before, bytes_before_is total page size i) in
+        let is : from ≡ bytes_before s total size i = f ∙ rw (numbers_before_lem, bytes_before_is total page size i) in
         rw (g, is)
 
   pub count_fits : 4 * (numbers_part s total i).count ≤ body s

@@ -61,12 +61,12 @@ module _ {s : ℕ} {store numbers : List ℕ} {total : ℕ} {value₀ value : Li
           few = omega arith;
           at_is = at_next;
           long = ap length set ∙ length-sets value at b ∙ k.long;
-          value_is = rw (more, sets-append value₀ 0 before b, ← k.value_is, zero-plus before, k.at_is) set;
+          value_is = rw (more, sets-append value₀ 0 before b, ← k.value_is, zero_plus before, k.at_is) set;
         };
       }
     where
-      zero-plus : (l : List ℕ) → 0 + length l ≡ length l
-      zero-plus l = omega arith
+      zero_plus : (l : List ℕ) → 0 + length l ≡ length l
+      zero_plus l = omega arith
 
 -- all pages are copied
 pub copying_done : {s : ℕ} {store numbers : List ℕ} {total : ℕ} {value₀ value : List ℕ} {i at : ℕ} → Copying s store numbers total value₀ value i at → total ≤ i

@@ -51,14 +51,14 @@ module _ {s : ℕ} (total : ℕ) (page : IsPageSize s) where
   numbers_before_suc i = refl
 
   -- the room for bytes grows by what a page's numbers leave
-  room_before-suc : (i : ℕ) → body s * suc i - 4 * numbers_before s total (suc i) ≡ body s * i - 4 * numbers_before s total i + (body s - 4 * numbers_on s total i)
-  room_before-suc i = rw (mul-suc, numbers_before_suc) (omega (arith, numbers_fit i, numbers_on_fit i))
+  room_before_suc : (i : ℕ) → body s * suc i - 4 * numbers_before s total (suc i) ≡ body s * i - 4 * numbers_before s total i + (body s - 4 * numbers_on s total i)
+  room_before_suc i = rw (mul-suc, numbers_before_suc) (omega (arith, numbers_fit i, numbers_on_fit i))
 
   -- the bytes before page i in one step
   pub bytes_before_is : (size i : ℕ) → bytes_before s total size i ≡ min size (body s * i - 4 * numbers_before s total i)
   unfolding bytes_before
   bytes_before_is size zero = rw (mul-zero (body s)) (omega arith)
-  bytes_before_is size (suc i) = rw (bytes_before_is size i, room_before-suc) (taken_twice size _ _)
+  bytes_before_is size (suc i) = rw (bytes_before_is size i, room_before_suc) (taken_twice size _ _)
 
   pub bytes_before_suc : (size i : ℕ) → bytes_before s total size (suc i) ≡ bytes_before s total size i + bytes_on s total size i
   unfolding bytes_before bytes_on
@@ -76,14 +76,14 @@ module _ {s : ℕ} (total : ℕ) (page : IsPageSize s) where
   page_fits size i = omega (arith, numbers_on_fit i)
 
   -- a page that has not only numbers has the last of them
-  numbers_on-rest : (i : ℕ) → 4 * numbers_on s total i < body s → numbers_on s total i ≡ total - cell_numbers - numbers_before s total i
+  numbers_on_rest : (i : ℕ) → 4 * numbers_on s total i < body s → numbers_on s total i ≡ total - cell_numbers - numbers_before s total i
   unfolding numbers_on
-  numbers_on-rest i h = omega (arith, page_words page)
+  numbers_on_rest i h = omega (arith, page_words page)
 
   -- so up to a page with value bytes there are all
   pub numbers_done : (size i : ℕ) → 1 ≤ bytes_on s total size i → numbers_before s total (suc i) ≡ total - cell_numbers
   numbers_done size i some =
-      let rest = numbers_on-rest i (omega (arith, page_fits size i)) in
+      let rest = numbers_on_rest i (omega (arith, page_fits size i)) in
       rw numbers_before_suc (omega (arith, numbers_within_lem i))
 
   -- all bytes stand on the pages, where these have room
@@ -91,13 +91,13 @@ module _ {s : ℕ} (total : ℕ) (page : IsPageSize s) where
   bytes_all size enough = rw (bytes_before_is size total, numbers_all) (omega arith)
 
   -- the room before page i is at most that before a later one
-  room-mono : (i d : ℕ) → body s * i - 4 * numbers_before s total i ≤ body s * (i + d) - 4 * numbers_before s total (i + d)
-  room-mono i zero = rw add-zero (omega arith)
-  room-mono i (suc d) = rw (add-suc, room_before-suc) (omega (arith, room-mono i d))
+  room_mono : (i d : ℕ) → body s * i - 4 * numbers_before s total i ≤ body s * (i + d) - 4 * numbers_before s total (i + d)
+  room_mono i zero = rw add-zero (omega arith)
+  room_mono i (suc d) = rw (add-suc, room_before_suc) (omega (arith, room_mono i d))
 
   -- bytes are left for every page, where one page less would not do
   pub bytes_left : (size i : ℕ) → body s * total < size + 4 * (total - cell_numbers) + body s → i < total → bytes_before s total size i < size
-  bytes_left size i tight h = last (i + (total - suc i)) (omega arith) (room-mono i (total - suc i))
+  bytes_left size i tight h = last (i + (total - suc i)) (omega arith) (room_mono i (total - suc i))
     where
       last : (j : ℕ) → suc j ≡ total → body s * i - 4 * numbers_before s total i ≤ body s * j - 4 * numbers_before s total j → bytes_before s total size i < size
       last j e mono =

@@ -57,39 +57,39 @@ found_in s total value numbers i = record { numbers = take (cell_numbers + numbe
 module _ {s total : ℕ} (page : IsPageSize s) {store value numbers : List ℕ} (kept : Kept s store total value numbers)
     (enough : length value + 4 * (total - cell_numbers) ≤ body s * total) where
   -- the numbers have 32 bits
-  numbers-small : (n : ℕ) → Memᴰ n numbers → n < 256 ^ 4
-  numbers-small = at_places (λ n. n < 256 ^ 4) numbers (λ i h. omega (arith, (kept.pages i (omega (arith, kept.count))).0, page_count_fits s store))
+  numbers_small : (n : ℕ) → Memᴰ n numbers → n < 256 ^ 4
+  numbers_small = at_places (λ n. n < 256 ^ 4) numbers (λ i h. omega (arith, (kept.pages i (omega (arith, kept.count))).0, page_count_fits s store))
 
   -- where all numbers stand on the pages before page i, all are found
-  numbers-found : (i : ℕ) → numbers_before s total i ≡ total - cell_numbers → (found_in s total value numbers i).numbers ≡ numbers
-  numbers-found i e = take_all (cell_numbers + numbers_before s total i) numbers (omega (arith, kept.count))
+  numbers_found : (i : ℕ) → numbers_before s total i ≡ total - cell_numbers → (found_in s total value numbers i).numbers ≡ numbers
+  numbers_found i e = take_all (cell_numbers + numbers_before s total i) numbers (omega (arith, kept.count))
 
   -- after all pages, all is found
   found_all : found_in s total value numbers total ≡ record { numbers = numbers; bytes = value }
   found_all =
-      let ns = numbers-found total (numbers_all total page) in
+      let ns = numbers_found total (numbers_all total page) in
       let bs : take (bytes_before s total (length value) total) value ≡ value = rw (bytes_all total page (length value) enough) (take-length value) in
       λ j. record { numbers = ns j; bytes = bs j }
 
   module _ (i : ℕ) (h : i < total) where
     -- the number of page i is found before it
-    number-found : get_or (found_in s total value numbers i).numbers i 0 ≡ get_or numbers i 0
-    number-found = get_or-take (cell_numbers + numbers_before s total i) numbers i 0 (number_before total page i h)
+    number_found : get_or (found_in s total value numbers i).numbers i 0 ≡ get_or numbers i 0
+    number_found = get_or-take (cell_numbers + numbers_before s total i) numbers i 0 (number_before total page i h)
 
     -- so the walk knows it
-    number-inside : i < length (found_in s total value numbers i).numbers
-    number-inside = omega (arith, length-take (cell_numbers + numbers_before s total i) numbers, number_before total page i h, kept.count)
+    number_inside : i < length (found_in s total value numbers i).numbers
+    number_inside = omega (arith, length-take (cell_numbers + numbers_before s total i) numbers, number_before total page i h, kept.count)
 
     -- and what stands there is page i
-    page-is : in_store s store i (get_or (found_in s total value numbers i).numbers i 0) ≡ answer (value_page s total value numbers i)
-    page-is = rw number-found (store_page s store i (get_or numbers i 0) (kept.pages i h).0 ∙ ap answer (kept.pages i h).1)
+    page_is : in_store s store i (get_or (found_in s total value numbers i).numbers i 0) ≡ answer (value_page s total value numbers i)
+    page_is = rw number_found (store_page s store i (get_or numbers i 0) (kept.pages i h).0 ∙ ap answer (kept.pages i h).1)
 
     -- the walk finds what is on it
-    found-more : with_page (found_in s total value numbers i) (value_page s total value numbers i) ≡ found_in s total value numbers (suc i)
-    found-more =
+    found_more : with_page (found_in s total value numbers i) (value_page s total value numbers i) ≡ found_in s total value numbers (suc i)
+    found_more =
         let before = cell_numbers + numbers_before s total i in
         let ns : take before numbers ++ value_numbers (value_page s total value numbers i) ≡ take (cell_numbers + numbers_before s total (suc i)) numbers =
-        rw (value_numbers_value_page page value numbers kept.count i numbers-small, numbers_before_suc total page i, ← add_assoc) (sym (take-add before _ numbers)) in
+        rw (value_numbers_value_page page value numbers kept.count i numbers_small, numbers_before_suc total page i, ← add_assoc) (sym (take-add before _ numbers)) in
         let bs : take (bytes_before s total (length value) i) value ++ value_bytes (value_page s total value numbers i) ≡ take (bytes_before s total (length value) (suc i)) value =
         rw (value_bytes_value_page page value numbers kept.count i, bytes_before_suc total page (length value) i) (sym (take-add (bytes_before s total (length value) i) _ value)) in
         λ j. record { numbers = ns j; bytes = bs j }
@@ -99,8 +99,8 @@ module _ {s total : ℕ} (page : IsPageSize s) {store value numbers : List ℕ} 
         → walk s (in_store s store) deleting (suc left) i (found_in s total value numbers i)
         ≡ cond (deleting && leb 1 (bytes_on s total (length value) i)) (ended (found_in s total value numbers (suc i))) (walk s (in_store s store) deleting left (suc i) (found_in s total value numbers (suc i)))
     walk_more deleting left =
-        walk_page s (in_store s store) deleting left i (found_in s total value numbers i) number-inside page-is (value_page_fits page value numbers kept.count i)
-        ∙ rw (byte_count_value_page page value numbers kept.count i, found-more)
+        walk_page s (in_store s store) deleting left i (found_in s total value numbers i) number_inside page_is (value_page_fits page value numbers kept.count i)
+        ∙ rw (byte_count_value_page page value numbers kept.count i, found_more)
 
   -- ---- the walks to their ends
 
@@ -111,14 +111,14 @@ module _ {s total : ℕ} (page : IsPageSize s) {store value numbers : List ℕ} 
   reads_on (suc left) i e = walk_more i (omega arith) false left ∙ reads_on left (suc i) (omega arith)
 
   -- a walk for deleting, from page i on
-  deletes-on : (left i : ℕ) → i + left ≡ total → (f : Found) × (walk s (in_store s store) true left i (found_in s total value numbers i) ≡ ended f) × (f.numbers ≡ numbers)
+  deletes_on : (left i : ℕ) → i + left ≡ total → (f : Found) × (walk s (in_store s store) true left i (found_in s total value numbers i) ≡ ended f) × (f.numbers ≡ numbers)
   unfolding walk
-  deletes-on zero i e = let last : i ≡ total = omega arith in (found_in s total value numbers i, refl, rw last (numbers-found total (numbers_all total page)))
-  deletes-on (suc left) i e =
+  deletes_on zero i e = let last : i ≡ total = omega arith in (found_in s total value numbers i, refl, rw last (numbers_found total (numbers_all total page)))
+  deletes_on (suc left) i e =
       rw (walk_more i (omega arith) true left)
       (cond_cases (λ (w : Walked). (f : Found) × (w ≡ ended f) × (f.numbers ≡ numbers)) (leb 1 (bytes_on s total (length value) i)) _ _
-      (λ t. (found_in s total value numbers (suc i), refl, numbers-found (suc i) (numbers_done total page (length value) i (leb-true 1 (bytes_on s total (length value) i) t))))
-      (λ t. deletes-on left (suc i) (omega arith)))
+      (λ t. (found_in s total value numbers (suc i), refl, numbers_found (suc i) (numbers_done total page (length value) i (leb-true 1 (bytes_on s total (length value) i) t))))
+      (λ t. deletes_on left (suc i) (omega arith)))
 
   module _ (hash : List ℕ) where
     -- the walk from the cell finds the numbers and the value
@@ -127,25 +127,25 @@ module _ {s total : ℕ} (page : IsPageSize s) {store value numbers : List ℕ} 
     walk-back = reads_on total 0 (zero-add total)
 
     -- the walk for deleting finds the numbers
-    walk-numbers : (f : Found) × (walk_cell s (in_store s store) true total (cell_for value hash numbers) ≡ ended f) × (f.numbers ≡ numbers)
+    walk_numbers : (f : Found) × (walk_cell s (in_store s store) true total (cell_for value hash numbers) ≡ ended f) × (f.numbers ≡ numbers)
     unfolding numbers_before bytes_before
-    walk-numbers = deletes-on total 0 (zero-add total)
+    walk_numbers = deletes_on total 0 (zero-add total)
 
     -- the table after a walk that finds all numbers
-    table-back : (table : List ℕ) {w : Walked} {f : Found} → w ≡ ended f → f.numbers ≡ numbers → table_after total table w ≡ sets table 0 numbers
-    table-back table e g = rw (e, g) (ap (sets table 0) (take_all total numbers (omega (arith, kept.count))))
+    table_back : (table : List ℕ) {w : Walked} {f : Found} → w ≡ ended f → f.numbers ≡ numbers → table_after total table w ≡ sets table 0 numbers
+    table_back table e g = rw (e, g) (ap (sets table 0) (take_all total numbers (omega (arith, kept.count))))
 
     module _ (long : length hash ≡ hash_size) where
       -- the cell reads back
       pub decode-back : 1 ≤ total → decode_cell s (cell_bytes (cell_for value hash numbers)) ≡ answer (cell_for value hash numbers)
       decode-back some =
-          decode-encoded s (cell_for value hash numbers) kept.few long (λ n m. numbers-small n (part-mem n cell_numbers 0 numbers m))
+          decode-encoded s (cell_for value hash numbers) kept.few long (λ n m. numbers_small n (part-mem n cell_numbers 0 numbers m))
           (omega (arith, length-take cell_numbers numbers, kept.count))
 
       -- and is admitted where there is room
-      admitted-back : 1 ≤ total → (room : Cell → Bool) → room (cell_for value hash numbers) ≡ true → admitted s room (cell_bytes (cell_for value hash numbers)) ≡ answer (cell_for value hash numbers)
+      admitted_back : 1 ≤ total → (room : Cell → Bool) → room (cell_for value hash numbers) ≡ true → admitted s room (cell_bytes (cell_for value hash numbers)) ≡ answer (cell_for value hash numbers)
       unfolding admitted
-      admitted-back some room r = rw (decode-back some, le-leb 1 (length value) kept.size, r)
+      admitted_back some room r = rw (decode-back some, le-leb 1 (length value) kept.size, r)
 
 -- ---- the theorems
 
@@ -158,8 +158,8 @@ reads_back {s} page store value numbers kept hash long table buffer room fits =
     let walked = walk-back page kept enough hash in
     let tests : leb total (length table) && leb (length value) (length buffer) ≡ true =
     rw (le-leb total (length table) (omega (arith, kept.count)), le-leb (length value) (length buffer) fits) in
-    ap (read_cell s store (record { numbers = table; value = buffer })) (admitted-back page kept enough hash long some (λ c. numbers_room s (length table) c && bytes_room (length buffer) c) tests)
-    ∙ rw (table-back page kept enough hash table walked refl, walked, eq-eqb (length numbers) total kept.count, eq-eqb (length value) (length value) refl)
+    ap (read_cell s store (record { numbers = table; value = buffer })) (admitted_back page kept enough hash long some (λ c. numbers_room s (length table) c && bytes_room (length buffer) c) tests)
+    ∙ rw (table_back page kept enough hash table walked refl, walked, eq-eqb (length numbers) total kept.count, eq-eqb (length value) (length value) refl)
 
 pub deletes_all : {s : ℕ} → IsPageSize s → DeletesAll s
 unfolding delete_into
@@ -167,6 +167,6 @@ deletes_all {s} page store value numbers kept hash long table room =
     let total = total_pages s (length value) in
     let enough = total_enough (length value) page in
     let some = total_positive (length value) page kept.size in
-    let w = walk-numbers page kept enough hash in
-    ap (delete_cell s store table) (admitted-back page kept enough hash long some (numbers_room s (length table)) (le-leb total (length table) (omega (arith, kept.count))))
-    ∙ rw (table-back page kept enough hash table w.1 w.2, w.1, w.2, eq-eqb (length numbers) total kept.count)
+    let w = walk_numbers page kept enough hash in
+    ap (delete_cell s store table) (admitted_back page kept enough hash long some (numbers_room s (length table)) (le-leb total (length table) (omega (arith, kept.count))))
+    ∙ rw (table_back page kept enough hash table w.1 w.2, w.1, w.2, eq-eqb (length numbers) total kept.count)

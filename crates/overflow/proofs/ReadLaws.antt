@@ -50,21 +50,21 @@ module _ (total : ℕ) (table : List ℕ) where
 
   -- a walk that has stopped
   module _ (w : Walked) {left : List ℕ} {n : ℕ} {vs : List ℕ} (e : effect (refused n vs) left ≡ effect (walk_counts w) (table_after total table w)) where
-    outcome-is : refused n vs ≡ walk_counts w
-    outcome-is = ap (λ (x : Effect FoundCounts (List ℕ)). x.outcome) e
+    outcome_is : refused n vs ≡ walk_counts w
+    outcome_is = ap (λ (x : Effect FoundCounts (List ℕ)). x.outcome) e
 
     table_is : left ≡ table_after total table w
     table_is = ap (λ (x : Effect FoundCounts (List ℕ)). x.lent) e
 
-    stopped-value : (size : ℕ) → whole_value total size w ≡ refused n vs
-    stopped-value size = by_end w outcome-is
+    stopped_value : (size : ℕ) → whole_value total size w ≡ refused n vs
+    stopped_value size = by_end w outcome_is
       where
         by_end : (w : Walked) → refused n vs ≡ walk_counts w → whole_value total size w ≡ refused n vs
         by_end (ended f) e = let z : ◌≡◌ {A = ℕ} 0 1 = cc in absurd (omega arith)
         by_end (stopped f n vs) e = sym cc
 
-    stopped-numbers : all_numbers total w ≡ refused n vs
-    stopped-numbers = by_end w outcome-is
+    stopped_numbers : all_numbers total w ≡ refused n vs
+    stopped_numbers = by_end w outcome_is
       where
         by_end : (w : Walked) → refused n vs ≡ walk_counts w → all_numbers total w ≡ refused n vs
         by_end (ended f) e = let z : ◌≡◌ {A = ℕ} 0 1 = cc in absurd (omega arith)
@@ -79,8 +79,8 @@ module _ (s : ℕ) (store cell table : List ℕ) {needs : ValueNeeds} (e : needs
   size_is : (cell_of cell).size ≡ needs.size
   size_is = ap (λ (n : ValueNeeds). n.size) e
 
-  total-is : total_pages s (cell_of cell).size ≡ needs.total
-  total-is = ap (λ (n : ValueNeeds). n.total) e
+  total_is : total_pages s (cell_of cell).size ≡ needs.total
+  total_is = ap (λ (n : ValueNeeds). n.total) e
 
   pub walk_ended : (deleting : Bool) {f : FoundCounts} {left : List ℕ} → effect (answer f) left ≡ walk_into s store deleting needs.total cell table
       → EndedWith needs.total table (walked deleting) f left
@@ -92,13 +92,13 @@ module _ (s : ℕ) (store cell table : List ℕ) {needs : ValueNeeds} (e : needs
   module _ (value : List ℕ) where
     reading : value_stored (table_after needs.total table (walked false)) value (whole_value needs.total needs.size (walked false))
         ≡ read_admitted s cell store (record { numbers = table; value = value })
-    reading = rw (total-is, size_is)
+    reading = rw (total_is, size_is)
 
     pub read-stopped : {left : List ℕ} {n : ℕ} {vs : List ℕ} → effect (refused n vs) left ≡ walk_into s store false needs.total cell table
         → effect (refused n vs) (record { numbers = left; value = value }) ≡ read_admitted s cell store (record { numbers = table; value = value })
     unfolding walk_into
     read-stopped w =
-        rw (table_is needs.total table (walked false) w) (rw (stopped-value needs.total table (walked false) w needs.size) at reading)
+        rw (table_is needs.total table (walked false) w) (rw (stopped_value needs.total table (walked false) w needs.size) at reading)
 
     module _ {f : FoundCounts} {left : List ℕ} (w : EndedWith needs.total table (walked false) f left) where
       -- the numbers are not as many as they should be
@@ -121,16 +121,16 @@ module _ (s : ℕ) (store cell table : List ℕ) {needs : ValueNeeds} (e : needs
 
         module _ (room : needs.total ≤ length table) where
           -- the table holds all numbers
-          first-all : take needs.total left ≡ w.found.numbers
-          first-all =
+          first_all : take needs.total left ≡ w.found.numbers
+          first_all =
               let found = w.found.numbers in
               let stands : left ≡ sets table 0 found = w.table_is ∙ ap (sets table 0) (take_all needs.total found (omega (arith, all_found))) in
               ap (take needs.total) stands ∙ ap (λ (k : ℕ). take k (sets table 0 found)) (sym all_found) ∙ take-sets table found (omega (arith, all_found))
 
-          bytes-found : w.found.bytes ≡ value_bytes_of s store (take needs.total left)
-          bytes-found =
+          bytes_found : w.found.bytes ≡ value_bytes_of s store (take needs.total left)
+          bytes_found =
               let v = walk_visited s store needs.total 0 (in_cell (cell_of cell)) w.found w.ended_is in
-              rw first-all (v.bytes ∙ ap (value_bytes_of s store) (take_all needs.total w.found.numbers (omega (arith, all_found))))
+              rw first_all (v.bytes ∙ ap (value_bytes_of s store) (take_all needs.total w.found.numbers (omega (arith, all_found))))
 
           module _ (same : f.bytes ≡ needs.size) where
             -- so its bytes can be copied
@@ -138,9 +138,9 @@ module _ (s : ℕ) (store cell table : List ℕ) {needs : ValueNeeds} (e : needs
             copyable fits =
                 let v = walk_visited s store needs.total 0 (in_cell (cell_of cell)) w.found w.ended_is in
                 record {
-                  inside = λ k h. rw (← get_or-take needs.total left k 0 h, first-all) (v.inside k h);
+                  inside = λ k h. rw (← get_or-take needs.total left k 0 h, first_all) (v.inside k h);
                   lent = omega (arith, ap length w.table_is, length-sets table 0 (take needs.total w.found.numbers), room);
-                  room = omega (arith, ap length bytes-found, w.bytes_are, same, fits);
+                  room = omega (arith, ap length bytes_found, w.bytes_are, same, fits);
                 }
 
             pub read_all : {written : List ℕ} → written ≡ sets value 0 (value_bytes_of s store (take needs.total left))
@@ -148,19 +148,19 @@ module _ (s : ℕ) (store cell table : List ℕ) {needs : ValueNeeds} (e : needs
                 ≡ read_admitted s cell store (record { numbers = table; value = value })
             read_all copied =
                 let size-found : length w.found.bytes ≡ needs.size = w.bytes_are ∙ same in
-                let stored : sets value 0 w.found.bytes ≡ sets value 0 (value_bytes_of s store (take needs.total left)) = ap (sets value 0) bytes-found in
+                let stored : sets value 0 w.found.bytes ≡ sets value 0 (value_bytes_of s store (take needs.total left)) = ap (sets value 0) bytes_found in
                 rw (copied, ← stored, w.table_is)
                 (rw (w.ended_is, eq-eqb (length w.found.numbers) needs.total all_found, eq-eqb (length w.found.bytes) needs.size size-found, all_found, size-found) at reading)
 
   -- ---- deleting
 
   deleting : effect (all_numbers needs.total (walked true)) (table_after needs.total table (walked true)) ≡ delete_admitted s cell store table
-  deleting = rw total-is
+  deleting = rw total_is
 
   pub delete_stopped : {left : List ℕ} {n : ℕ} {vs : List ℕ} → effect (refused n vs) left ≡ walk_into s store true needs.total cell table
       → effect (refused n vs) left ≡ delete_admitted s cell store table
   unfolding walk_into
-  delete_stopped w = rw (table_is needs.total table (walked true) w) (rw (stopped-numbers needs.total table (walked true) w) at deleting)
+  delete_stopped w = rw (table_is needs.total table (walked true) w) (rw (stopped_numbers needs.total table (walked true) w) at deleting)
 
   module _ {f : FoundCounts} {left : List ℕ} (w : EndedWith needs.total table (walked true) f left) where
     pub delete-numbers : f.numbers ≢ needs.total → effect (refused 17 []) left ≡ delete_admitted s cell store table

@@ -26,9 +26,9 @@ use Rattle.overflow.proofs.ValuePagesLaws.{length_value_page, number_count_value
 
 module _ {s total : ℕ} (page : IsPageSize s) (value numbers : List ℕ) (whole : length numbers ≡ total) where
   -- what a page holds and leaves
-  page-whole-of : (i : ℕ) → let p = value_page s total value numbers i in (length p ≡ s) × (4 + 4 * number_count p + byte_count p + left_on p ≡ s)
+  page_whole_of : (i : ℕ) → let p = value_page s total value numbers i in (length p ≡ s) × (4 + 4 * number_count p + byte_count p + left_on p ≡ s)
   unfolding left_on
-  page-whole-of i =
+  page_whole_of i =
       let all = length_value_page page value numbers whole i in
       (all, omega (arith, all, value_page_fits page value numbers whole i, page_least page))
 
@@ -38,12 +38,12 @@ module _ {s total : ℕ} (page : IsPageSize s) (value numbers : List ℕ) (whole
   left-before zero = rw mul-zero (omega arith)
   left-before (suc n) =
       rw (mul-suc, numbers_before_suc total page n, bytes_before_suc total page (length value) n)
-      (omega (arith, left-before n, (page-whole-of n).1, number_count_value_page page value numbers whole n, byte_count_value_page page value numbers whole n, page_least page))
+      (omega (arith, left-before n, (page_whole_of n).1, number_count_value_page page value numbers whole n, byte_count_value_page page value numbers whole n, page_least page))
 
   -- all pages, where they have room for the value and its numbers
-  left-all : length value + 4 * (total - cell_numbers) ≤ body s * total
+  left_all : length value + 4 * (total - cell_numbers) ≤ body s * total
       → left_on_pages s total value numbers total + (length value + 4 * (total - cell_numbers)) ≡ body s * total
-  left-all enough =
+  left_all enough =
       omega (arith, left-before total, numbers_all total page, bytes_all total page (length value) enough)
 
 -- ---- from the definition
@@ -73,10 +73,10 @@ unfolding total_of
 spare_is_left {s} page value numbers =
     let size = length value in
     told s size (λ (t : Total). length numbers ≡ t.total → t.spare ≡ left_on_pages s t.total value numbers t.total)
-    (λ whole. omega (arith, left-all page value numbers whole (total_enough size page), spare_rest s size (total_pages s size) (total_enough size page)))
+    (λ whole. omega (arith, left_all page value numbers whole (total_enough size page), spare_rest s size (total_pages s size) (total_enough size page)))
 
 pub page_whole : {s : ℕ} → IsPageSize s → PageWhole s
-page_whole page value numbers i whole = page-whole-of page value numbers whole i
+page_whole page value numbers i whole = page_whole_of page value numbers whole i
 
 pub bodies_whole : {s : ℕ} → IsPageSize s → BodiesWhole s
 unfolding total_of

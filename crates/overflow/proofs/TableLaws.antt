@@ -139,20 +139,20 @@ module _ {s : ℕ} (size : IsPageSize s) (source : Source) (paged : Paged s sour
       abbrev resume : ValuePageHeader → List ℕ → Effect FoundCounts (List ℕ)
       resume h t = cond (deleting && leb 1 h.bytes) (effect (answer (with_header (found_counts_of f) h)) t) (walk_table s source deleting total left (suc i) (with_header (found_counts_of f) h) t)
 
-      by-test : (b : List ℕ) (last : Bool)
+      by_test : (b : List ℕ) (last : Bool)
           → let w = cond last (ended (with_page f b)) (walk s source deleting left (suc i) (with_page f b)) in
           cond last (effect (answer (found_counts_of (with_page f b))) (table_of (with_page f b))) (walk_table s source deleting total left (suc i) (found_counts_of (with_page f b)) (table_of (with_page f b)))
           ≡ effect (walk_counts w) (table_after total table w)
-      by-test b true = refl
-      by-test b false = again b
+      by_test b true = refl
+      by_test b false = again b
 
-      by-page : (o : Outcome (List ℕ)) → ((b : List ℕ) → o ≡ answer b → (source i (get_or f.numbers i 0) ≡ answer b) × Fits s b)
+      by_page : (o : Outcome (List ℕ)) → ((b : List ℕ) → o ≡ answer b → (source i (get_or f.numbers i 0) ≡ answer b) × Fits s b)
           → let v = leaves header_of (λ b. sets (table_of f) (length f.numbers) (take (total - length f.numbers) (value_numbers b))) (table_of f) o in
           resumed resume v.outcome v.lent ≡ effect (walk_counts (onward f next o)) (table_after total table (onward f next o))
-      by-page (answer b) fits =
+      by_page (answer b) fits =
           let p = fits b refl in
-          rw (sets_queued table f.numbers (value_numbers b) total, counts_more f b (paged i (get_or f.numbers i 0) b p.0) p.1) (by-test b (deleting && leb 1 (byte_count b)))
-      by-page (refused n vs) fits = refl
+          rw (sets_queued table f.numbers (value_numbers b) total, counts_more f b (paged i (get_or f.numbers i 0) b p.0) p.1) (by_test b (deleting && leb 1 (byte_count b)))
+      by_page (refused n vs) fits = refl
 
     pub table-walk : (left i : ℕ) (f : Found) → i + left ≤ total → Same left i f
     unfolding walk_table walk visit_into
@@ -160,7 +160,7 @@ module _ {s : ℕ} (size : IsPageSize s) (source : Source) (paged : Paged s sour
     table-walk (suc left) i f h =
         let p = get_or f.numbers i 0 in
         rw (next-page i f (omega arith))
-        (by-page left i f (λ b. table-walk left (suc i) (with_page f b) (omega arith)) (check (ltb i (length f.numbers)) 14 (i ∷ []) (parse_page s source i p))
+        (by_page left i f (λ b. table-walk left (suc i) (with_page f b) (omega arith)) (check (ltb i (length f.numbers)) 14 (i ∷ []) (parse_page s source i p))
         (λ b e. parse_answer s source i p (check_answer (ltb i (length f.numbers)) 14 (i ∷ []) (parse_page s source i p) e).1))
 
 -- the whole walk, from the numbers of a cell
@@ -179,27 +179,27 @@ module _ (s : ℕ) (source : Source) (deleting : Bool) (total : ℕ) where
   table_step : (left i : ℕ) (f : FoundCounts) (table : List ℕ) {next : List ℕ} {h : ValuePageHeader} → effect (answer h) next ≡ visit_into s source total i f.numbers table
       → walk_table s source deleting total (suc left) i f table ≡ walk_table s source deleting total (left_after deleting h.bytes left) (suc i) (with_header f h) next
   unfolding walk_table left_after
-  table_step left i f table {next} {h} e = rw (← e) (by-test (deleting && leb 1 h.bytes))
+  table_step left i f table {next} {h} e = rw (← e) (by_test (deleting && leb 1 h.bytes))
     where
-      by-test : (last : Bool)
+      by_test : (last : Bool)
           → cond last (effect (answer (with_header f h)) next) (walk_table s source deleting total left (suc i) (with_header f h) next)
           ≡ walk_table s source deleting total (cond last 0 left) (suc i) (with_header f h) next
-      by-test true = refl
-      by-test false = refl
+      by_test true = refl
+      by_test false = refl
 
-  table-stop : (left i : ℕ) (f : FoundCounts) (table : List ℕ) {next : List ℕ} {n : ℕ} {vs : List ℕ} → effect (refused n vs) next ≡ visit_into s source total i f.numbers table
+  table_stop : (left i : ℕ) (f : FoundCounts) (table : List ℕ) {next : List ℕ} {n : ℕ} {vs : List ℕ} → effect (refused n vs) next ≡ visit_into s source total i f.numbers table
       → walk_table s source deleting total (suc left) i f table ≡ effect (refused n vs) next
   unfolding walk_table
-  table-stop left i f table e = rw (← e)
+  table_stop left i f table e = rw (← e)
 
 -- fewer pages are left after one
 pub left_less : (deleting : Bool) (bytes : ℕ) {left more : ℕ} → 0 < left → more ≡ left_after deleting bytes (left - 1) → more < left
 unfolding left_after
-left_less deleting bytes {left} {more} some e = by-test (deleting && leb 1 bytes) e
+left_less deleting bytes {left} {more} some e = by_test (deleting && leb 1 bytes) e
   where
-    by-test : (last : Bool) → more ≡ cond last 0 (left - 1) → more < left
-    by-test true e = omega arith
-    by-test false e = omega arith
+    by_test : (last : Bool) → more ≡ cond last 0 (left - 1) → more < left
+    by_test true e = omega arith
+    by_test false e = omega arith
 
 -- where the loop stands after i pages: what is left to do is the rest of the whole walk, and the counts are small
 pub record Walking (s : ℕ) (source : Source) (deleting : Bool) (total known : ℕ) (table₀ table : List ℕ) (numbers bytes i left : ℕ) : Type 0 where
@@ -223,15 +223,15 @@ module _ {s : ℕ} {source : Source} {deleting : Bool} {total known : ℕ} {tabl
       sym (w.rest ∙ ap (λ (k : ℕ). walk_table s source deleting total k i (record { numbers = numbers; bytes = bytes }) table) none)
 
   module _ (some : 0 < left) where
-    rest-suc : walk_table s source deleting total total 0 (start_counts known) table₀ ≡ walk_table s source deleting total (suc (left - 1)) i (record { numbers = numbers; bytes = bytes }) table
-    rest-suc =
+    rest_suc : walk_table s source deleting total total 0 (start_counts known) table₀ ≡ walk_table s source deleting total (suc (left - 1)) i (record { numbers = numbers; bytes = bytes }) table
+    rest_suc =
         let one : left ≡ suc (left - 1) = omega arith in
         w.rest ∙ ap (λ (k : ℕ). walk_table s source deleting total k i (record { numbers = numbers; bytes = bytes }) table) one
 
     -- the next page stops the walk
     pub walking-stopped : {next : List ℕ} {n : ℕ} {vs : List ℕ} → effect (refused n vs) next ≡ visit_into s source total i numbers table
         → effect (refused n vs) next ≡ walk_table s source deleting total total 0 (start_counts known) table₀
-    walking-stopped e = sym (rest-suc ∙ table-stop s source deleting total (left - 1) i _ table e)
+    walking-stopped e = sym (rest_suc ∙ table_stop s source deleting total (left - 1) i _ table e)
 
     -- the next page is taken
     pub walking-next : {next : List ℕ} {h : ValuePageHeader} → effect (answer h) next ≡ visit_into s source total i numbers table → length next ≡ length table
@@ -239,7 +239,7 @@ module _ {s : ℕ} {source : Source} {deleting : Bool} {total known : ℕ} {tabl
         → Walking s source deleting total known table₀ next (numbers + h.numbers) (bytes + h.bytes) (i + 1) more
     walking-next {h = h} e same n m l =
         record {
-          rest = rw (l, add-one i) (rest-suc ∙ table_step s source deleting total (left - 1) i _ table e);
+          rest = rw (l, add-one i) (rest_suc ∙ table_step s source deleting total (left - 1) i _ table e);
           long = same ∙ w.long;
           few = omega (arith, w.few, left_less deleting h.bytes some l);
           numbers_few = omega (arith, w.numbers_few);

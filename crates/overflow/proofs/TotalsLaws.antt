@@ -43,13 +43,13 @@ module _ (b r size : ℕ) (large : 8 < b) (past : 15 < r) (short : b * r < size 
   room : b * extra ≡ extra * (b - 4) + 4 * extra
   room = let e : b ≡ b - 4 + 4 = omega arith in subst (λ (z : ℕ). z * extra ≡ extra * (b - 4) + 4 * extra) (sym e) (omega arith)
 
-  extra-enough : size + 4 * (r + extra - 15) ≤ b * (r + extra)
+  extra_enough : size + 4 * (r + extra - 15) ≤ b * (r + extra)
   unfolding extra
-  extra-enough = rw mul-add (omega (arith, room, lt-div-mul-add {a = size + 4 * (r - 15) - b * r + (b - 3)} {b = b - 4} (omega arith)))
+  extra_enough = rw mul-add (omega (arith, room, lt-div-mul-add {a = size + 4 * (r - 15) - b * r + (b - 3)} {b = b - 4} (omega arith)))
 
-  extra-tight : b * (r + extra) < size + 4 * (r + extra - 15) + b
+  extra_tight : b * (r + extra) < size + 4 * (r + extra - 15) + b
   unfolding extra
-  extra-tight = rw mul-add (omega (arith, room, div-mul-le_self (size + 4 * (r - 15) - b * r + (b - 3)) (b - 4)))
+  extra_tight = rw mul-add (omega (arith, room, div-mul-le_self (size + 4 * (r - 15) - b * r + (b - 3)) (b - 4)))
 
 module _ {s : ℕ} (size : ℕ) (page : IsPageSize s) where
   -- the raw pages hold the bytes
@@ -77,13 +77,13 @@ module _ {s : ℕ} (size : ℕ) (page : IsPageSize s) where
   total_cases Q room none =
       let few = leb (raw_pages s size) cell_numbers in
       let fit = leb (raw_pages s size - cell_numbers) ((body s * raw_pages s size - size) / 4) in
-      cond_cases Q (few || fit) _ _ (λ e. room (⊎_elim few-room fit-room (or-true few fit e))) (λ e. short (or-false few fit e))
+      cond_cases Q (few || fit) _ _ (λ e. room (⊎_elim few_room fit_room (or-true few fit e))) (λ e. short (or-false few fit e))
     where
-      few-room : leb (raw_pages s size) cell_numbers ≡ true → size + 4 * (raw_pages s size - cell_numbers) ≤ body s * raw_pages s size
-      few-room e = omega (arith, leb-true (raw_pages s size) cell_numbers e, raw_covers)
+      few_room : leb (raw_pages s size) cell_numbers ≡ true → size + 4 * (raw_pages s size - cell_numbers) ≤ body s * raw_pages s size
+      few_room e = omega (arith, leb-true (raw_pages s size) cell_numbers e, raw_covers)
 
-      fit-room : leb (raw_pages s size - cell_numbers) ((body s * raw_pages s size - size) / 4) ≡ true → size + 4 * (raw_pages s size - cell_numbers) ≤ body s * raw_pages s size
-      fit-room e = omega (arith, leb-true (raw_pages s size - cell_numbers) ((body s * raw_pages s size - size) / 4) e, raw_covers)
+      fit_room : leb (raw_pages s size - cell_numbers) ((body s * raw_pages s size - size) / 4) ≡ true → size + 4 * (raw_pages s size - cell_numbers) ≤ body s * raw_pages s size
+      fit_room e = omega (arith, leb-true (raw_pages s size - cell_numbers) ((body s * raw_pages s size - size) / 4) e, raw_covers)
 
       short : (leb (raw_pages s size) cell_numbers ≡ false) × (leb (raw_pages s size - cell_numbers) ((body s * raw_pages s size - size) / 4) ≡ false)
           → Q (raw_pages s size + (size + 4 * (raw_pages s size - cell_numbers) - body s * raw_pages s size + (body s - 3)) / (body s - 4))
@@ -101,14 +101,14 @@ module _ {s : ℕ} (size : ℕ) (page : IsPageSize s) where
   unfolding extra
   total_enough =
       total_cases (λ t. size + 4 * (t - cell_numbers) ≤ body s * t) (λ h. h)
-      (λ past short. extra-enough (body s) (raw_pages s size) size (omega (arith, page_least page)) past short)
+      (λ past short. extra_enough (body s) (raw_pages s size) size (omega (arith, page_least page)) past short)
 
   -- with one page less there would be bytes left
   pub total_tight : body s * total_pages s size < size + 4 * (total_pages s size - cell_numbers) + body s
   unfolding extra
   total_tight =
       total_cases (λ t. body s * t < size + 4 * (t - cell_numbers) + body s) (λ _. omega (arith, raw_tight))
-      (λ past short. extra-tight (body s) (raw_pages s size) size (omega (arith, page_least page)) past short)
+      (λ past short. extra_tight (body s) (raw_pages s size) size (omega (arith, page_least page)) past short)
 
   -- the total is not much more than the size, and so than the limit
   pub total_small : total_pages s size ≤ size + 4

@@ -68,9 +68,9 @@ module _ (s : ℕ) (ns bs : List ℕ) where
         ∙ number_at_append-left 2 (bytes_of 2 (length bs)) parts 0 (omega (arith, length_bytes_of 2 (length bs)))
         ∙ number_at_bytes_of 2 (length bs) (omega (arith, page.limit))
 
-    pub numbers-encoded : ((n : ℕ) → Memᴰ n ns → n < 256 ^ 4) → value_numbers (encode_value_page s ns bs) ≡ ns
+    pub numbers_encoded : ((n : ℕ) → Memᴰ n ns → n < 256 ^ 4) → value_numbers (encode_value_page s ns bs) ≡ ns
     unfolding value_numbers encode_value_page parts zeros
-    numbers-encoded numbers_fit =
+    numbers_encoded numbers_fit =
         ap (numbers_at 4 (encode_value_page s ns bs) 4) number-count-encoded
         ∙ numbers_at_same 4 (encode_value_page s ns bs) parts 4 0 (length ns) behind
         ∙ numbers_at-bytes_of_all 4 ns (bs ++ zeros) numbers_fit
@@ -120,21 +120,21 @@ module _ {s total : ℕ} (page : IsPageSize s) (value numbers : List ℕ) (whole
       let before = bytes_before s total (length value) i in
       length-take-le (bytes_on s total (length value) i) (drop before value) (omega (arith, length-drop before value, bytes_within_lem total page (length value) i))
 
-  parts-fit : 4 + 4 * length ns + length bs ≤ s
-  parts-fit = rw (length-numbers_on_page, length-bytes_on_page) (omega (arith, page_least page, page_fits total page (length value) i))
+  parts_fit : 4 + 4 * length ns + length bs ≤ s
+  parts_fit = rw (length-numbers_on_page, length-bytes_on_page) (omega (arith, page_least page, page_fits total page (length value) i))
 
   -- what is decoded from page i
   pub length_value_page : length (value_page s total value numbers i) ≡ s
   unfolding value_page
-  length_value_page = length_encoded s ns bs page parts-fit
+  length_value_page = length_encoded s ns bs page parts_fit
 
   pub number_count_value_page : number_count (value_page s total value numbers i) ≡ numbers_on s total i
   unfolding value_page
-  number_count_value_page = number-count-encoded s ns bs page parts-fit ∙ length-numbers_on_page
+  number_count_value_page = number-count-encoded s ns bs page parts_fit ∙ length-numbers_on_page
 
   pub byte_count_value_page : byte_count (value_page s total value numbers i) ≡ bytes_on s total (length value) i
   unfolding value_page
-  byte_count_value_page = byte-count-encoded s ns bs page parts-fit ∙ length-bytes_on_page
+  byte_count_value_page = byte-count-encoded s ns bs page parts_fit ∙ length-bytes_on_page
 
   pub value_page_fits : 4 * number_count (value_page s total value numbers i) + byte_count (value_page s total value numbers i) ≤ body s
   value_page_fits = rw (number_count_value_page, byte_count_value_page) (page_fits total page (length value) i)
@@ -142,8 +142,8 @@ module _ {s total : ℕ} (page : IsPageSize s) (value numbers : List ℕ) (whole
   pub value_numbers_value_page : ((n : ℕ) → Memᴰ n numbers → n < 256 ^ 4) → value_numbers (value_page s total value numbers i) ≡ ns
   unfolding value_page
   value_numbers_value_page fit =
-      numbers-encoded s ns bs page parts-fit (λ n m. fit n (part-mem n (numbers_on s total i) (cell_numbers + numbers_before s total i) numbers m))
+      numbers_encoded s ns bs page parts_fit (λ n m. fit n (part-mem n (numbers_on s total i) (cell_numbers + numbers_before s total i) numbers m))
 
   pub value_bytes_value_page : value_bytes (value_page s total value numbers i) ≡ bs
   unfolding value_page
-  value_bytes_value_page = bytes-encoded s ns bs page parts-fit
+  value_bytes_value_page = bytes-encoded s ns bs page parts_fit

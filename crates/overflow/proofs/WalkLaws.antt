@@ -136,13 +136,13 @@ module _ (s : ℕ) (store : List ℕ) where
       record {
         rest = value_numbers b ++ v.rest;
         numbers = numbers;
-        enough = rw next (le-suc v.enough);
+        enough = rw next (le_suc v.enough);
         inside = rw next (λ k h. at p (drop (suc i) g.numbers) k h a.0 v.inside);
         bytes = rw (next, a.1) (v.bytes ∙ append_assoc f.bytes (value_bytes b) (value_bytes_of s store (take left (drop (suc i) g.numbers))));
       }
     where
-      le-suc : {m n : ℕ} → m ≤ n → suc m ≤ suc n
-      le-suc h = omega arith
+      le_suc : {m n : ℕ} → m ≤ n → suc m ≤ suc n
+      le_suc h = omega arith
 
       at : (p : ℕ) (ps : List ℕ) (k : ℕ) → k < suc left → p < page_count s store → ((j : ℕ) → j < left → get_or ps j 0 < page_count s store) → get_or (p ∷ ps) k 0 < page_count s store
       at p ps zero h first others = first

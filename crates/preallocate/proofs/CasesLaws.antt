@@ -72,23 +72,23 @@ module _ (c : ℕ) (l : FreeList) (k : ℕ) (freed : List ℕ) (bump : ℕ) wher
     abbrev L : ℕ
     L = length l.entries
 
-    after-fits : L - k ≤ c * pages_after c l k
+    after_fits : L - k ≤ c * pages_after c l k
     unfolding pages_after
-    after-fits =
+    after_fits =
         cond_cases (λ (p : ℕ). L - k ≤ c * p) (eqb k 0) P (pages_for c (L - k))
         (λ e. omega (arith, (shaped c P L shape).most))
         (λ e. pages_for_enough c (L - k) pos)
 
-    after-most : pages_after c l k ≤ P
+    after_most : pages_after c l k ≤ P
     unfolding pages_after
-    after-most =
+    after_most =
         cond_cases (λ (p : ℕ). p ≤ P) (eqb k 0) P (pages_for c (L - k))
         (λ e. omega arith)
         (λ e. pages_for_least c (L - k) P pos (omega (arith, (shaped c P L shape).most)))
 
-    after-all : k ≡ 0 → pages_after c l k ≡ P
+    after_all : k ≡ 0 → pages_after c l k ≡ P
     unfolding pages_after
-    after-all e = rw e
+    after_all e = rw e
 
     after_none : L ≤ k → pages_after c l k ≡ 0
     unfolding pages_after
@@ -97,16 +97,16 @@ module _ (c : ℕ) (l : FreeList) (k : ℕ) (freed : List ℕ) (bump : ℕ) wher
         (λ e. (shaped c P L shape).none (omega (arith, eqb-true k 0 e)))
         (λ e. omega (arith, pages_for_least c (L - k) 0 pos (omega arith)))
 
-    mends-is : mends c l k ≡ true → (k ≡ 0) × (2 ≤ P) × (L ≡ c * (P - 1))
-    mends-is e =
+    mends_is : mends c l k ≡ true → (k ≡ 0) × (2 ≤ P) × (L ≡ c * (P - 1))
+    mends_is e =
         let t = and-true (eqb k 0) (is_fragmented c P L) e in
         (eqb-true k 0 t.0, (fragmented_is c P L t.1).0, (fragmented_is c P L t.1).1)
 
-    not-mended : L ≤ k → (b : Bool) → mends c l k ≡ b → mends c l k ≡ false
-    not-mended h true e =
-        let t = mends-is e in
+    not_mended : L ≤ k → (b : Bool) → mends c l k ≡ b → mends c l k ≡ false
+    not_mended h true e =
+        let t = mends_is e in
         absurd (omega (arith, t.1, t.0, (shaped c P L shape).none (omega (arith, t.0))))
-    not-mended h false e = e
+    not_mended h false e = e
 
     abbrev Both : Plan → Type 0
     Both t = Bounded c l k t × Q t
@@ -117,30 +117,30 @@ module _ (c : ℕ) (l : FreeList) (k : ℕ) (freed : List ℕ) (bump : ℕ) wher
       both_first =
           cond_cases Both (leb L k) _ _
           (λ e. let h = leb-true L k e in
-          (record { fits = omega arith; within = omega arith }, first.none h (not-mended h (mends c l k) refl) (after_none h)))
+          (record { fits = omega arith; within = omega arith }, first.none h (not_mended h (mends c l k) refl) (after_none h)))
           (λ e. let lt : k < L = leb-false L k e in
-          let some : 1 ≤ pages_after c l k = times_positive c (pages_after c l k) (omega (arith, after-fits)) in
+          let some : 1 ≤ pages_after c l k = times_positive c (pages_after c l k) (omega (arith, after_fits)) in
           cond_cases Both (mends c l k) _ _
-          (λ f. let t = mends-is f in
-          (record { fits = omega (arith, t.2); within = omega arith }, first.mending t.0 (omega arith) f t.1 t.2 (after-all t.0)))
+          (λ f. let t = mends_is f in
+          (record { fits = omega (arith, t.2); within = omega arith }, first.mending t.0 (omega arith) f t.1 t.2 (after_all t.0)))
           (λ f. cond_cases Both (eqb (L - suc k) (c * (pages_after c l k - 1))) _ _
-          (λ g. let x = eqb-true _ _ g in (record { fits = omega arith; within = omega arith }, first.emptying lt f some after-most x))
-          (λ g. (record { fits = omega (arith, after-fits); within = omega arith }, first.renumbering lt f some after-most after-fits))))
+          (λ g. let x = eqb-true _ _ g in (record { fits = omega arith; within = omega arith }, first.emptying lt f some after_most x))
+          (λ g. (record { fits = omega (arith, after_fits); within = omega arith }, first.renumbering lt f some after_most after_fits))))
 
       module _ (t : Plan) (both : Both t) where
-        some-kept : 1 ≤ t.left → 1 ≤ t.kept
-        some-kept some = times_positive c t.kept (omega (arith, both.0.fits))
+        some_kept : 1 ≤ t.left → 1 ≤ t.kept
+        some_kept some = times_positive c t.kept (omega (arith, both.0.fits))
 
-        not-whole : 1 ≤ t.left → leb 1 t.kept && eqb t.left (c * t.kept) ≡ false → t.left ≡ c * t.kept → ⊥
-        not-whole some e x = go (and-false (leb 1 t.kept) (eqb t.left (c * t.kept)) e)
+        not_whole : 1 ≤ t.left → leb 1 t.kept && eqb t.left (c * t.kept) ≡ false → t.left ≡ c * t.kept → ⊥
+        not_whole some e x = go (and-false (leb 1 t.kept) (eqb t.left (c * t.kept)) e)
           where
             go : (leb 1 t.kept ≡ false) ⊎ (eqb t.left (c * t.kept) ≡ false) → ⊥
-            go (inl y) = omega (arith, leb-false 1 t.kept y, some-kept some)
+            go (inl y) = omega (arith, leb-false 1 t.kept y, some_kept some)
             go (inr y) = eqb-false t.left (c * t.kept) y x
 
-        both-next : Both (next_plan c l t)
+        both_next : Both (next_plan c l t)
         unfolding next_plan
-        both-next =
+        both_next =
             cond_cases Both (leb 1 t.kept && eqb t.left (c * t.kept)) _ _
             (λ e. let b = and-true (leb 1 t.kept) (eqb t.left (c * t.kept)) e in
             let x = eqb-true _ _ b.1 in
@@ -149,19 +149,19 @@ module _ (c : ℕ) (l : FreeList) (k : ℕ) (freed : List ℕ) (bump : ℕ) wher
             (λ f. let some : 1 ≤ t.left = leb-true _ _ f in
             cond_cases Both (eqb (t.left - 1) (c * (t.kept - 1))) _ _
             (λ g. let x = eqb-true _ _ g in
-            (record { fits = omega arith; within = omega (arith, both.0.within) }, turns.taking-last t both.0 both.1 some (some-kept some) (not-whole some e) x))
-            (λ g. (record { fits = omega (arith, both.0.fits); within = omega (arith, both.0.within) }, turns.taking t both.0 both.1 some (some-kept some) (not-whole some e))))
+            (record { fits = omega arith; within = omega (arith, both.0.within) }, turns.taking-last t both.0 both.1 some (some_kept some) (not_whole some e) x))
+            (λ g. (record { fits = omega (arith, both.0.fits); within = omega (arith, both.0.within) }, turns.taking t both.0 both.1 some (some_kept some) (not_whole some e))))
             (λ f. (record { fits = both.0.fits; within = both.0.within }, turns.bumping t both.0 both.1)))
 
-      both-enough : (n : ℕ) (t : Plan) → Both t → Both (enough_room c l n t)
+      both_enough : (n : ℕ) (t : Plan) → Both t → Both (enough_room c l n t)
       unfolding enough_room
-      both-enough zero t both = both
-      both-enough (suc n) t both =
+      both_enough zero t both = both
+      both_enough (suc n) t both =
           subst Both (sym (enough_turn c l n t))
           (cond_cases Both (ltb (room c t) (length t.pushed)) (enough_room c l n (next_plan c l t)) t
-          (λ e. both-enough n (next_plan c l t) (both-next t both))
+          (λ e. both_enough n (next_plan c l t) (both_next t both))
           (λ e. both))
 
       pub plan_run : Bounded c l k (plan_of c l k freed bump) × Q (plan_of c l k freed bump)
       unfolding plan_of
-      plan_run = both-enough _ (first_plan c l k freed bump) both_first
+      plan_run = both_enough _ (first_plan c l k freed bump) both_first

@@ -100,8 +100,8 @@ module _ (c : ℕ) (l : FreeList) (two : 2 ≤ c) (shape : is_shape c (length l.
   abbrev P : ℕ
   P = length l.pages
 
-  first-mended : k < L → eqb k 0 && is_fragmented c P L ≡ true → First c l (pushed_after c l k freed) bump (mended c l (L - suc k) (pushed_after c l k freed) bump)
-  first-mended some e =
+  first_mended : k < L → eqb k 0 && is_fragmented c P L ≡ true → First c l (pushed_after c l k freed) bump (mended c l (L - suc k) (pushed_after c l k freed) bump)
+  first_mended some e =
       let t = and-true (eqb k 0) (is_fragmented c P L) e in
       let z = eqb-true k 0 t.0 in
       let f = fragmented_is c P L t.1 in
@@ -114,9 +114,9 @@ module _ (c : ℕ) (l : FreeList) (two : 2 ≤ c) (shape : is_shape c (length l.
         same = refl;
       }
 
-  first-emptied : k < L → eqb k 0 && is_fragmented c P L ≡ false → L - suc k ≡ c * (pages_after c l k - 1)
+  first_emptied : k < L → eqb k 0 && is_fragmented c P L ≡ false → L - suc k ≡ c * (pages_after c l k - 1)
       → First c l (pushed_after c l k freed) bump (emptied c l (pages_after c l k) (L - suc k) (pushed_after c l k freed) bump)
-  first-emptied some e last =
+  first_emptied some e last =
       let a = after_facts c l two shape k some e in
       let fewer = after_fewer c l two shape k in
       let n = length-append (pushed_after c l k freed) (page_number c l (pages_after c l k - 1) ∷ []) in
@@ -128,9 +128,9 @@ module _ (c : ℕ) (l : FreeList) (two : 2 ≤ c) (shape : is_shape c (length l.
         same = refl;
       }
 
-  first-renumbered : k < L → eqb k 0 && is_fragmented c P L ≡ false → L - suc k ≢ c * (pages_after c l k - 1)
+  first_renumbered : k < L → eqb k 0 && is_fragmented c P L ≡ false → L - suc k ≢ c * (pages_after c l k - 1)
       → First c l (pushed_after c l k freed) bump (renumbered c l (pages_after c l k) (L - suc k) (pushed_after c l k freed) bump)
-  first-renumbered some e last =
+  first_renumbered some e last =
       let a = after_facts c l two shape k some e in
       let fewer = after_fewer c l two shape k in
       let one = times_less c (pages_after c l k) (times_positive c (pages_after c l k) (omega arith)) in
@@ -151,10 +151,10 @@ module _ (c : ℕ) (l : FreeList) (two : 2 ≤ c) (shape : is_shape c (length l.
       (λ e. record { packed = omega arith; near = omega arith; few = omega arith; pushes = omega arith; same = refl })
       (λ e. let some : k < L = leb-false L k e in
       cond_cases Q (eqb k 0 && is_fragmented c P L) _ _
-      (first-mended some)
+      (first_mended some)
       (λ f. cond_cases Q (eqb (L - suc k) (c * (pages_after c l k - 1))) _ _
-      (λ g. first-emptied some f (eqb-true _ _ g))
-      (λ g. first-renumbered some f (eqb-false _ _ g))))
+      (λ g. first_emptied some f (eqb-true _ _ g))
+      (λ g. first_renumbered some f (eqb-false _ _ g))))
 
   -- its sums have 64 bits
   pub first_small : c ≤ most_entries → length freed < 2 ^ 61 → P < 2 ^ 61 → L < 2 ^ 61 → bump ≤ max_bump → Small c (counts (first_plan c l k freed bump))
@@ -162,13 +162,13 @@ module _ (c : ℕ) (l : FreeList) (two : 2 ≤ c) (shape : is_shape c (length l.
       let t = first in
       let s = t.packed in
       let h = length_pushed c l two shape k freed in
-      let few = room-few (first_plan c l k freed bump).kept (length (first_plan c l k freed bump).fresh) t.few in
+      let few = room_few (first_plan c l k freed bump).kept (length (first_plan c l k freed bump).fresh) t.few in
       omega arith
     where
-      room-few : (kept fresh : ℕ) → fresh ≤ 1 → c * (kept + fresh) ≤ c * kept + c
-      room-few kept zero h = omega arith
-      room-few kept (suc zero) h = omega arith
-      room-few kept (suc (suc n)) h = absurd (omega arith)
+      room_few : (kept fresh : ℕ) → fresh ≤ 1 → c * (kept + fresh) ≤ c * kept + c
+      room_few kept zero h = omega arith
+      room_few kept (suc zero) h = omega arith
+      room_few kept (suc (suc n)) h = absurd (omega arith)
 
 -- ---- what the code's calls ask
 

@@ -130,9 +130,9 @@ module _ (c : ℕ) (l : FreeList) (two : 2 ≤ c) (shape : is_shape c (length l.
   abbrev plan : Plan
   plan = plan_of c l k freed bump
 
-  plan-ended : Ended c l (counts (first_plan c l k freed bump)) (counts plan)
+  plan_ended : Ended c l (counts (first_plan c l k freed bump)) (counts plan)
   unfolding plan_of
-  plan-ended =
+  plan_ended =
       let t = first_plan c l k freed bump in
       let f = first c l two shape k freed bump in
       let turns = t.left + length t.pushed in
@@ -141,7 +141,7 @@ module _ (c : ℕ) (l : FreeList) (two : 2 ≤ c) (shape : is_shape c (length l.
   -- The turns end: the room is at least as long as the push list, so the turns that the definition counts down are enough.
   pub plan_enough : length plan.pushed ≤ room c plan
   unfolding room
-  plan_enough = plan-ended.enough
+  plan_enough = plan_ended.enough
 
   -- More turns than the definition counts down change nothing.
   pub plan_turns : (turns : ℕ) → (first_plan c l k freed bump).left + length (first_plan c l k freed bump).pushed ≤ turns
@@ -153,23 +153,23 @@ module _ (c : ℕ) (l : FreeList) (two : 2 ≤ c) (shape : is_shape c (length l.
   -- The room is at most c more than the push list is long.
   pub plan_tight : room c plan ≤ length plan.pushed + c
   unfolding room
-  plan_tight = plan-ended.tight
+  plan_tight = plan_ended.tight
 
   -- No more pages are kept than the list has.
   pub plan_kept : plan.kept ≤ length l.pages
-  plan_kept = plan-ended.packed.kept
+  plan_kept = plan_ended.packed.kept
 
   -- No more entries are left than the list has.
   pub plan_left : plan.left ≤ length l.entries
-  plan_left = plan-ended.packed.within
+  plan_left = plan_ended.packed.within
 
   -- The entries left fit on the pages kept.
   pub plan_fits : plan.left ≤ c * plan.kept
-  plan_fits = plan-ended.packed.most
+  plan_fits = plan_ended.packed.most
 
   -- The pages kept are as few as hold the entries left, so the top one has an entry.
   pub plan_least : c * plan.kept < plan.left + c
-  plan_least = plan-ended.packed.least
+  plan_least = plan_ended.packed.least
 
   -- No page is kept exactly where no entry is left.
   pub plan_none : (plan.kept ≡ 0 → plan.left ≡ 0) × (plan.left ≡ 0 → plan.kept ≡ 0)
@@ -181,4 +181,4 @@ module _ (c : ℕ) (l : FreeList) (two : 2 ≤ c) (shape : is_shape c (length l.
 
   -- The bump does not fall.
   pub plan_bump : bump ≤ plan.bump
-  plan_bump = omega (arith, plan-ended.past, (first c l two shape k freed bump).same)
+  plan_bump = omega (arith, plan_ended.past, (first c l two shape k freed bump).same)

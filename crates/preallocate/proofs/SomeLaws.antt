@@ -59,8 +59,8 @@ module _ (c : ℕ) (l : FreeList) (k : ℕ) (freed : List ℕ) (bump : ℕ) (pos
         renumbering = λ lt e one most fits. more_after (pushed_after c l k freed) (_ ∷ []) (omega arith);
       }
 
-  some-turns : TurnCases c l k freed bump Some
-  some-turns =
+  some_turns : TurnCases c l k freed bump Some
+  some_turns =
       record {
         swapping = λ t b p one x. kept-after t.pushed (t.top ∷ []) p;
         taking = λ t b p some one ne. p;
@@ -70,4 +70,4 @@ module _ (c : ℕ) (l : FreeList) (k : ℕ) (freed : List ℕ) (bump : ℕ) (pos
 
   -- Where something was popped or freed, the push list is not empty.
   pub plan_some : 1 ≤ length (plan_of c l k freed bump).pushed
-  plan_some = (plan_run c l k freed bump Some pos shape some_first some-turns).1
+  plan_some = (plan_run c l k freed bump Some pos shape some_first some_turns).1

@@ -68,41 +68,41 @@ module _ {c : ℕ} {l : FreeList} {p : Counts} (packed : Packed c l p) where
   fewer : 0 < p.entries → c * (p.pages - 1) + c ≡ c * p.pages
   fewer h = times_less c p.pages (pages_positive h)
 
-  packed-swapped : 0 < p.pages → p.entries ≡ c * p.pages → Packed c l (top_swapped l p)
-  packed-swapped h w = let f = times_less c p.pages h in omega arith
+  packed_swapped : 0 < p.pages → p.entries ≡ c * p.pages → Packed c l (top_swapped l p)
+  packed_swapped h w = let f = times_less c p.pages h in omega arith
 
-  packed-emptied : 0 < p.entries → p.entries - 1 ≡ c * (p.pages - 1) → Packed c l (last_taken l p)
-  packed-emptied h e = let f = fewer h in omega arith
+  packed_emptied : 0 < p.entries → p.entries - 1 ≡ c * (p.pages - 1) → Packed c l (last_taken l p)
+  packed_emptied h e = let f = fewer h in omega arith
 
-  packed-shortened : 0 < p.entries → p.entries - 1 ≢ c * (p.pages - 1) → Packed c l (entry_taken p)
-  packed-shortened h e = let f = fewer h in omega arith
+  packed_shortened : 0 < p.entries → p.entries - 1 ≢ c * (p.pages - 1) → Packed c l (entry_taken p)
+  packed_shortened h e = let f = fewer h in omega arith
 
   pub packed_taken : Packed c l (taken c l p)
-  packed_taken = taken_cases c l p (λ q _. Packed c l q) (λ h. omega arith) packed-emptied packed-shortened
+  packed_taken = taken_cases c l p (λ q _. Packed c l q) (λ h. omega arith) packed_emptied packed_shortened
 
   pub packed_stepped : Packed c l (stepped c l p)
-  packed_stepped = step_cases c l p (λ q _. Packed c l q) packed-swapped (λ h. omega arith) packed-emptied packed-shortened
+  packed_stepped = step_cases c l p (λ q _. Packed c l q) packed_swapped (λ h. omega arith) packed_emptied packed_shortened
 
   -- the room with one page less and two more
-  room-emptied : 0 < p.entries → c * (p.pages - 1 + (p.fresh + 2)) ≡ c * (p.pages + p.fresh) + c
-  room-emptied h = let f = fewer h in omega arith
+  room_emptied : 0 < p.entries → c * (p.pages - 1 + (p.fresh + 2)) ≡ c * (p.pages + p.fresh) + c
+  room_emptied h = let f = fewer h in omega arith
 
-  falls-swapped : 0 < p.pages → p.entries ≡ c * p.pages → work c (top_swapped l p) < work c p
-  falls-swapped h w = let f = times_less c p.pages h in omega arith
+  falls_swapped : 0 < p.pages → p.entries ≡ c * p.pages → work c (top_swapped l p) < work c p
+  falls_swapped h w = let f = times_less c p.pages h in omega arith
 
   pub falls_taken : Short c p → work c (taken c l p) < work c p
   falls_taken s =
       taken_cases c l p (λ q _. work c q < work c p)
       (λ h. omega arith)
-      (λ h e. let r = room-emptied h in omega arith)
+      (λ h e. let r = room_emptied h in omega arith)
       (λ h e. omega arith)
 
   pub falls_stepped : Short c p → work c (stepped c l p) < work c p
   falls_stepped s =
       step_cases c l p (λ q _. work c q < work c p)
-      falls-swapped
+      falls_swapped
       (λ h. omega arith)
-      (λ h e. let r = room-emptied h in omega arith)
+      (λ h e. let r = room_emptied h in omega arith)
       (λ h e. omega arith)
 
   -- the room after a turn is at most c more than is asked
@@ -111,7 +111,7 @@ module _ {c : ℕ} {l : FreeList} {p : Counts} (packed : Packed c l p) where
       step_cases c l p (λ q _. room_of c q ≤ q.pushed + c)
       (λ h w. omega arith)
       (λ h. omega arith)
-      (λ h e. let r = room-emptied h in omega arith)
+      (λ h e. let r = room_emptied h in omega arith)
       (λ h e. omega arith)
 
   -- ---- the sums have 64 bits
@@ -130,7 +130,7 @@ module _ {c : ℕ} {l : FreeList} {p : Counts} (packed : Packed c l p) where
     small-taken =
         taken_cases c l p (λ q _. Small c q)
         (λ h. omega arith)
-        (λ h e. let r = room-emptied h in omega arith)
+        (λ h e. let r = room_emptied h in omega arith)
         (λ h e. omega arith)
 
 -- ---- how a turn's numbers join those of the turns after it
@@ -197,15 +197,15 @@ module _ {c : ℕ} {l : FreeList} {p : Counts} (packed : Packed c l p) (s : Shor
   then_swapped before r after w rest zero e = absurd (omega arith)
   then_swapped before r after w rest (suc k) e =
       let f = whole_facts c p w in
-      let d = falls-swapped packed f.0 f.1 in
+      let d = falls_swapped packed f.0 f.1 in
       rw (planned_more c l k p s, new_more c l k p s, w) (rest k (omega arith))
 
   -- a page taken, and what is done after it
-  then-taken : (before mid : List ℕ) (q r : Counts) (after : List ℕ) → whole_of c p ≡ false → Took c l p before q mid
+  then_taken : (before mid : List ℕ) (q r : Counts) (after : List ℕ) → whole_of c p ≡ false → Took c l p before q mid
       → Planned c l q mid r after → Planned c l p before r after
   unfolding Planned stepped step_names
-  then-taken before mid q r after w t rest zero e = absurd (omega arith)
-  then-taken before mid q r after w t rest (suc k) e =
+  then_taken before mid q r after w t rest zero e = absurd (omega arith)
+  then_taken before mid q r after w t rest (suc k) e =
       let d = falls_taken packed s in
       let o = (rw t.counted at rest) k (omega arith) in
       rw (planned_more c l k p s, new_more c l k p s, w) (
@@ -220,9 +220,9 @@ module _ {c : ℕ} {l : FreeList} {p : Counts} (packed : Packed c l p) (s : Shor
   swapped_ready small w =
       let f = whole_facts c p w in
       let n = times_less c p.pages f.0 in (
-        falls-swapped packed f.0 f.1,
+        falls_swapped packed f.0 f.1,
         (
-          record { packed = packed-swapped packed f.0 f.1; small = small-swapped packed small s f.0 f.1; short = omega arith },
+          record { packed = packed_swapped packed f.0 f.1; small = small-swapped packed small s f.0 f.1; short = omega arith },
           rw (le-leb 1 p.pages f.0, ne_eqb (p.entries - 1) (c * p.pages) (omega arith)),
         ),
       )
@@ -250,7 +250,7 @@ along_more {c} {l} {q₀} {q} {r} {out₀} {out} {mid} a s w t n =
         small = rw e (small-taken a.packed a.small s);
         less = omega (arith, a.less);
         same = n ∙ a.same;
-        planned = λ x after h. a.planned x after (then-taken a.packed s out mid r x after w t h);
+        planned = λ x after h. a.planned x after (then_taken a.packed s out mid r x after w t h);
       },
     )
 

@@ -106,16 +106,16 @@ module _ {s : ℕ} (size : IsPageSize s) (v : Save) (freed : List ℕ) (room : F
   left_by o = leaves (finish_answer v) (stored before) before o
 
   -- the recorded length is not below the bump, and so past all numbers freed
-  freed-covered : {f : Finished} → Succeeds s v freed f → (n : ℕ) → Memᴰ n freed → n < (finish_answer v f).recorded
+  freed_covered : {f : Finished} → Succeeds s v freed f → (n : ℕ) → Memᴰ n freed → n < (finish_answer v f).recorded
   unfolding finish_answer
-  freed-covered {f} done n m =
+  freed_covered {f} done n m =
       let under : n < f.bump = omega (arith, (good_freed (bumped v) freed done.good n m).1, bump_raised freed size done.stands, ap (λ (g : Finished). g.bump) done.is) in
       cond_cases (λ (r : ℕ). n < r) (ltb v.recorded f.bump) (grown f.bump) v.recorded
       (λ e. omega (arith, grown_covers f.bump)) (λ e. omega (arith, ltb-false v.recorded f.bump e))
 
-  stored-tells : (f : Finished) → finish s v freed (room_in room) ≡ answer f → Tells s f (told_with freed (stored before f) (finish_answer v f))
+  stored_tells : (f : Finished) → finish s v freed (room_in room) ≡ answer f → Tells s f (told_with freed (stored before f) (finish_answer v f))
   unfolding finish_answer
-  stored-tells f e =
+  stored_tells f e =
       let (done, fits) = succeeds s v freed (room_in room) f e in
       record {
         head = refl;
@@ -124,7 +124,7 @@ module _ {s : ℕ} (size : IsPageSize s) (v : Save) (freed : List ℕ) (room : F
         L = refl;
         writes = lent_all s f.written room.buffer room.numbers (written_whole done size) fits.bytes fits.numbers;
         opens = list_front before.tables f.list fits.pages fits.entries;
-        covers = freed-covered done;
+        covers = freed_covered done;
       }
 
 -- ---- any sequence of calls
@@ -138,18 +138,18 @@ module _ {s : ℕ} (size : IsPageSize s) (l : FreeList) (bump : ℕ) where
   abbrev Rest : List CodeCall → Type 0
   Rest made = (n : ℕ) → Follows s l bump n made → Runs n made
 
-  after-hand-out : (made : List CodeCall) → Rest made → (n : ℕ) (v : Save) (o : Outcome HandedOut) → o ≡ hand_out s v
+  after_hand_out_lem : (made : List CodeCall) → Rest made → (n : ℕ) (v : Save) (o : Outcome HandedOut) → o ≡ hand_out s v
       → if_answered (λ (h : HandedOut). OpenOn l bump n v × Follows s l bump h.save.handed made) (Follows s l bump n made) o
       → Runs n (hand_out_made v o ∷ made)
   unfolding run numbers_told finish_told
-  after-hand-out made rest n v (answer h) e ((own, given), follows) =
+  after_hand_out_lem made rest n v (answer h) e ((own, given), follows) =
       let (calls, is) = rest h.save.handed follows in
       let out : hand_out s (open_on l bump n own) ≡ answer h = ap (hand_out s) (sym given) ∙ sym e in (
         hand_out_call own ∷ calls,
         subst (λ (x : Outcome HandedOut). IsRun s (hand_out_made v (answer h) ∷ made) (after_hand_out (λ (m : ℕ). run s l bump m calls) (run s l bump n calls) x)) (sym out)
             (record { numbers = ap (λ (ns : List ℕ). h.number ∷ ns) is.numbers; finish = is.finish }),
       )
-  after-hand-out made rest n v (refused number vs) e follows =
+  after_hand_out_lem made rest n v (refused number vs) e follows =
       let (calls, is) = rest n follows in
       (calls, record { numbers = is.numbers; finish = is.finish })
 
@@ -168,7 +168,7 @@ module _ {s : ℕ} (size : IsPageSize s) (l : FreeList) (bump : ℕ) where
           let out : finish s (open_on l bump n own) freed (room_in room) ≡ answer f = ap (λ (w : Save). finish s w freed (room_in room)) (sym given) ∙ done in (
             finish_call own freed (room_in room) ∷ [],
             subst (λ (x : Outcome Finished). IsRun s (finish_made v freed room (left_by size v freed room (answer f)) ∷ made) (after_finish freed (run s l bump n []) x)) (sym out)
-                (record { numbers = sym (ap numbers_told ends); finish = (ap finish_told ends, refl, f, refl, stored-tells size v freed room f done) }),
+                (record { numbers = sym (ap numbers_told ends); finish = (ap finish_told ends, refl, f, refl, stored_tells size v freed room f done) }),
           )
   after_finish_lem made rest n v freed room (refused number vs) done e q =
       subst
@@ -179,7 +179,7 @@ module _ {s : ℕ} (size : IsPageSize s) (l : FreeList) (bump : ℕ) where
   runs : (made : List CodeCall) → Rest made
   unfolding run numbers_told finish_told finish_into
   runs [] n follows = ([], record { numbers = refl; finish = refl })
-  runs (hand_out_made v o ∷ made) n follows = after-hand-out made (runs made) n v o follows.0 follows.1
+  runs (hand_out_made v o ∷ made) n follows = after_hand_out_lem made (runs made) n v o follows.0 follows.1
   runs (finish_made v freed room e ∷ made) n follows = after_finish_lem made (runs made) n v freed room (finish s v freed (room_in room)) refl e follows.0 follows.1
 
 pub code_runs : {s : ℕ} → IsPageSize s → CodeRuns s

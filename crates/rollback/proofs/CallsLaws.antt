@@ -72,9 +72,9 @@ module _ (s : ℕ) (l : FreeList) (bump : ℕ) where
     pub number : Handed l bump (suc v.handed) a.number
     pub count : a.save.handed ≡ suc v.handed
 
-  hand-out : (v : Save) (a : HandedOut) → OpenedOn l bump v → hand_out s v ≡ answer a → Next v a
+  hand_out_lem : (v : Save) (a : HandedOut) → OpenedOn l bump v → hand_out s v ≡ answer a → Next v a
   unfolding hand_out
-  hand-out v a o e =
+  hand_out_lem v a o e =
       let c = check_answer (state_fits s v) 1 [] _ e in
       let d = check_answer (ltb v.handed v.L || ltb (next_number v) max_bump) 7 [] (answer (record { number = next_number v; save = next_save v })) c.1 in
       subst (Next v) (unanswer d.1) (record { number = next-handed v o; count = refl })
@@ -91,10 +91,10 @@ module _ (s : ℕ) (l : FreeList) (bump : ℕ) where
     pub numbers : (x : ℕ) → Memᴰ x r.numbers → Handed l bump last.handed x
     pub finishes : Finishes last r
 
-  after-hand-out : (v : Save) (next : ℕ → Run) (stay : Run) (o : Outcome HandedOut) → OpenedOn l bump v → hand_out s v ≡ o
+  after_hand_out_lem : (v : Save) (next : ℕ → Run) (stay : Run) (o : Outcome HandedOut) → OpenedOn l bump v → hand_out s v ≡ o
       → ((m : ℕ) → Ran m (next m)) → Ran v.handed stay → Ran v.handed (after_hand_out next stay o)
-  after-hand-out v next stay (answer a) o e more r =
-      let n = hand-out v a o e in
+  after_hand_out_lem v next stay (answer a) o e more r =
+      let n = hand_out_lem v a o e in
       let q = more a.save.handed in
       record {
         last = q.last;
@@ -108,7 +108,7 @@ module _ (s : ℕ) (l : FreeList) (bump : ℕ) where
           → Handed l bump q.last.handed m
       go m n q (inl e) = rw e (handed_more l bump (suc v.handed) q.last.handed a.number (omega (arith, n.count, q.later)) n.number)
       go m n q (inr h) = q.numbers m h
-  after-hand-out v next stay (refused n vs) o e more r = r
+  after_hand_out_lem v next stay (refused n vs) o e more r = r
 
   after_finish_lem : (v : Save) (freed : List ℕ) (room : RoomLent) (stay : Run) (o : Outcome Finished) → OpenedOn l bump v
       → finish s v freed room ≡ o → Ran v.handed stay → Ran v.handed (after_finish freed stay o)
@@ -133,7 +133,7 @@ module _ (s : ℕ) (l : FreeList) (bump : ℕ) where
       }
   run_ran (hand_out_call own ∷ calls) n =
       let v = open_on l bump n own in
-      after-hand-out v (λ (m : ℕ). run s l bump m calls) (run s l bump n calls) (hand_out s v) (opened_on n own) refl (λ m. run_ran calls m) (run_ran calls n)
+      after_hand_out_lem v (λ (m : ℕ). run s l bump m calls) (run s l bump n calls) (hand_out s v) (opened_on n own) refl (λ m. run_ran calls m) (run_ran calls n)
   run_ran (finish_call own freed room ∷ calls) n =
       let v = open_on l bump n own in
       after_finish_lem v freed room (run s l bump n calls) (finish s v freed room) (opened_on n own) refl (run_ran calls n)

@@ -88,9 +88,9 @@ module _ (s : ℕ) (x : Value) where
   walk_of store = walk_cell s (in_store s store) false (total_pages s (cell_of x.cell).size) (cell_of x.cell)
 
   -- the cell that is admitted is the one that the bytes are
-  admitted-cell : (room : Cell → Bool) (c : Cell) → admitted s room x.cell ≡ answer c → c ≡ cell_of x.cell
+  admitted_cell : (room : Cell → Bool) (c : Cell) → admitted s room x.cell ≡ answer c → c ≡ cell_of x.cell
   unfolding admitted
-  admitted-cell room c e =
+  admitted_cell room c e =
       let w = with_answer_answer (λ d. check (leb 1 d.size) 10 [] (check (room d) 13 [] (answer d))) (decode_cell s x.cell) e in
       let t = check_answer (leb 1 w.0.size) 10 [] _ w.2 in
       let u = check_answer (room w.0) 13 [] (answer w.0) t.1 in
@@ -103,16 +103,16 @@ module _ (s : ℕ) (x : Value) where
       value_stored (table_after (total_pages s size) lent.numbers w) lent.value (whole_value (total_pages s size) size w)
 
   -- where reading answers in one store, it is by the walk in every store
-  answers-by-walk : (store : List ℕ) (lent : ReadLent) (room : Cell → Bool) (o : Outcome Cell) → admitted s room x.cell ≡ o → {a : ValueCounts} {m : ReadLent}
+  answers_by_walk : (store : List ℕ) (lent : ReadLent) (room : Cell → Bool) (o : Outcome Cell) → admitted s room x.cell ≡ o → {a : ValueCounts} {m : ReadLent}
       → read_cell s store lent o ≡ effect (answer a) m → (more : List ℕ) → read_cell s more lent o ≡ left_by lent (walk_of more)
-  answers-by-walk store lent room (answer c) e g more = ap (λ (d : Cell). read_cell s more lent (answer d)) (admitted-cell room c e)
-  answers-by-walk store lent room (refused n vs) e g more = absurd (not_refused g)
+  answers_by_walk store lent room (answer c) e g more = ap (λ (d : Cell). read_cell s more lent (answer d)) (admitted_cell room c e)
+  answers_by_walk store lent room (refused n vs) e g more = absurd (not_refused g)
 
   module _ (store : List ℕ) (gets : GetsValue s store x) where
-    read-by-walk : (lent : ReadLent) → length x.numbers ≤ length lent.numbers → length x.bytes ≤ length lent.value
+    read_by_walk : (lent : ReadLent) → length x.numbers ≤ length lent.numbers → length x.bytes ≤ length lent.value
         → (more : List ℕ) → read_value_into s x.cell more lent ≡ left_by lent (walk_of more)
     unfolding read_value_into
-    read-by-walk lent h k = answers-by-walk store lent _ _ refl (gets.value lent h k)
+    read_by_walk lent h k = answers_by_walk store lent _ _ refl (gets.value lent h k)
 
     -- a value that a reader gets is what the walk over its pages finds
     pub value-walked : walk_of store ≡ ended (record { numbers = x.numbers; bytes = x.bytes })
@@ -121,7 +121,7 @@ module _ (s : ℕ) (x : Value) where
         let total = total_pages s size in
         let lent : ReadLent = record { numbers = x.numbers; value = x.bytes } in
         let table = table_after total x.numbers (walk_of store) in
-        let left = sym (read-by-walk lent (omega arith) (omega arith) store) ∙ gets.value lent (omega arith) (omega arith) in
+        let left = sym (read_by_walk lent (omega arith) (omega arith) store) ∙ gets.value lent (omega arith) (omega arith) in
         let b = behind value_counts_of (λ (f : Found). record { numbers = table; value = sets x.bytes 0 f.bytes }) (record { numbers = table; value = x.bytes })
         (whole_value total size (walk_of store)) left in
         let f = b.result in
@@ -138,5 +138,5 @@ module _ (s : ℕ) (x : Value) where
     gets-value more e =
         record {
           cell = gets.cell;
-          value = λ lent h k. read-by-walk lent h k more ∙ ap (left_by lent) e ∙ sym (read-by-walk lent h k store) ∙ gets.value lent h k;
+          value = λ lent h k. read_by_walk lent h k more ∙ ap (left_by lent) e ∙ sym (read_by_walk lent h k store) ∙ gets.value lent h k;
         }

@@ -61,8 +61,8 @@ module _ {s : ℕ} (size : IsPageSize s) {a : State} (first : Good s a) where
     pub lists : (p : ℕ) → Memᴰ p l.pages → p < page_count s store → SamePage (page_at s store p) (page_at s more p)
     pub others : (p : ℕ) → (Free l bump p → ⊥) → (Memᴰ p l.pages → ⊥) → p < page_count s store → page_at s more p ≡ page_at s store p
 
-  left-start : (extra : List ℕ) → Left (store ++ extra)
-  left-start extra =
+  left_start : (extra : List ℕ) → Left (store ++ extra)
+  left_start extra =
       record {
         longer = omega (arith, length-append store extra);
         lists = λ p m h. rw (same p h) (record { prev = refl; entries = refl });
@@ -73,16 +73,16 @@ module _ {s : ℕ} (size : IsPageSize s) {a : State} (first : Good s a) where
       same p h = page_at-grown s store extra p (page_within_lem s store p pos h)
 
   -- a free number is none of the first list's pages
-  free-page : (n : ℕ) → Free l bump n → Memᴰ n l.pages → ⊥
-  free-page n (inl e) m = different_apart l.pages l.entries first.different n m e
-  free-page n (inr e) m = omega (arith, first.below n (Memᴰ.append_left l.entries m))
+  free_page : (n : ℕ) → Free l bump n → Memᴰ n l.pages → ⊥
+  free_page n (inl e) m = different_apart l.pages l.entries first.different n m e
+  free_page n (inr e) m = omega (arith, first.below n (Memᴰ.append_left l.entries m))
 
   left-write : (more : List ℕ) (w : Write) → Left more → MayWrite s store l bump w → Left (write_page s more w)
   left-write more w k may =
       record {
         longer = omega (arith, k.longer, length_written s more w may.whole);
         lists = λ p m h. on_list p m h (ℕ_discrete p w.number) may.apart;
-        others = λ p f g h. on-other p f g h (ℕ_discrete p w.number) may.apart;
+        others = λ p f g h. on_other p f g h (ℕ_discrete p w.number) may.apart;
       }
     where
       elsewhere : (p : ℕ) → p < page_count s store → (p ≡ w.number → ⊥) → page_at s (write_page s more w) p ≡ page_at s more p
@@ -91,14 +91,14 @@ module _ {s : ℕ} (size : IsPageSize s) {a : State} (first : Good s a) where
       on_list : (p : ℕ) → Memᴰ p l.pages → p < page_count s store → Dec (p ≡ w.number) → Apart s store l bump w
           → SamePage (page_at s store p) (page_at s (write_page s more w) p)
       on_list p m h (no ne) x = rw (elsewhere p h ne) (k.lists p m h)
-      on_list p m h (yes e) (inl f) = absurd (free-page w.number f (Memᴰ.cast (sym e) m))
+      on_list p m h (yes e) (inl f) = absurd (free_page w.number f (Memᴰ.cast (sym e) m))
       on_list p m h (yes e) (inr x) = rw (e, page_same s more w may.whole) x.1
 
-      on-other : (p : ℕ) → (Free l bump p → ⊥) → (Memᴰ p l.pages → ⊥) → p < page_count s store → Dec (p ≡ w.number) → Apart s store l bump w
+      on_other : (p : ℕ) → (Free l bump p → ⊥) → (Memᴰ p l.pages → ⊥) → p < page_count s store → Dec (p ≡ w.number) → Apart s store l bump w
           → page_at s (write_page s more w) p ≡ page_at s store p
-      on-other p f g h (no ne) x = elsewhere p h ne ∙ k.others p f g h
-      on-other p f g h (yes e) (inl x) = absurd (f (subst (Free l bump) (sym e) x))
-      on-other p f g h (yes e) (inr x) = absurd (g (Memᴰ.cast e x.0))
+      on_other p f g h (no ne) x = elsewhere p h ne ∙ k.others p f g h
+      on_other p f g h (yes e) (inl x) = absurd (f (subst (Free l bump) (sym e) x))
+      on_other p f g h (yes e) (inr x) = absurd (g (Memᴰ.cast e x.0))
 
   left-writes : (more : List ℕ) (ws : List Write) → Left more → ((w : Write) → Memᴰ w ws → MayWrite s store l bump w) → Left (write_pages s more ws)
   unfolding write_pages
@@ -116,7 +116,7 @@ module _ {s : ℕ} (size : IsPageSize s) {a : State} (first : Good s a) where
         finish_writes size stored_first first.different first.below cut-ran.of (succeeds s cut-ran.last _ room f e).0 w m
 
     pub cut_left : Left after
-    cut_left = rw c.leaves (left-writes (store ++ c.extra) c.writes (left-start c.extra) (λ w m. may_write w (c.allowed w m)))
+    cut_left = rw c.leaves (left-writes (store ++ c.extra) c.writes (left_start c.extra) (λ w m. may_write w (c.allowed w m)))
 
   -- ---- what is read from it
 
@@ -137,8 +137,8 @@ module _ {s : ℕ} (size : IsPageSize s) {a : State} (first : Good s a) where
           entries_inside = λ n m. ((was.entries_inside n m).0, omega (arith, (was.entries_inside n m).1, more-pages));
         }
 
-    list-survives : GetsList s more a.head l
-    list-survives = gets_list s more a.head l (ap (read_list s more) head_first ∙ read_stored s more l size.two_entries stored_more)
+    list_survives : GetsList s more a.head l
+    list_survives = gets_list s more a.head l (ap (read_list s more) head_first ∙ read_stored s more l size.two_entries stored_more)
 
     -- a page of a first value is as it was
     value-page : (x : Value) → Memᴰ x a.values → (n : ℕ) → Memᴰ n x.numbers → n < page_count s store → page_at s more n ≡ page_at s store n
@@ -148,8 +148,8 @@ module _ {s : ℕ} (size : IsPageSize s) {a : State} (first : Good s a) where
         not_free (inl t) = first.values_apart x c n m (Memᴰ.append_right l.pages t)
         not_free (inr t) = omega (arith, first.values_below x c n m)
 
-    value-survives : (x : Value) → Memᴰ x a.values → GetsValue s more x
-    value-survives x m =
+    value_survives : (x : Value) → Memᴰ x a.values → GetsValue s more x
+    value_survives x m =
         let gets = first.each x m in
         let walked = value-walked s x store gets in
         let cell = cell_of x.cell in
@@ -157,7 +157,7 @@ module _ {s : ℕ} (size : IsPageSize s) {a : State} (first : Good s a) where
 
 -- demand 3, at every page size
 pub rollback : {s : ℕ} → IsPageSize s → Rollback s
-rollback size a after first c = let k = cut_left size first c in (list-survives size first k, value-survives size first k)
+rollback size a after first c = let k = cut_left size first c in (list_survives size first k, value_survives size first k)
 
 -- demand 3, at document 01's page size
 pub rollback-standard : Rollback standard_page_size

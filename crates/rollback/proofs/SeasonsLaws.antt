@@ -96,8 +96,8 @@ module _ {s : ℕ} (size : IsPageSize s) {a b : State} (first : Good s a) (c : C
   distinct : DistinctBelow l up
   distinct = distinct_below first.different (λ n m. omega (arith, first.below n m, up_is)) (omega (arith, done.stands.some))
 
-  freed-good : (n : ℕ) → Memᴰ n freed → (1 ≤ n) × (n < up)
-  freed-good = good_freed up freed done.good
+  freed_good : (n : ℕ) → Memᴰ n freed → (1 ≤ n) × (n < up)
+  freed_good = good_freed up freed done.good
 
   -- ---- counts in the first list, and among the entries handed out
 
@@ -110,8 +110,8 @@ module _ {s : ℕ} (size : IsPageSize s) {a b : State} (first : Good s a) (c : C
   not_listed : (x : ℕ) → (Memᴰ x (l.pages ++ l.entries) → ⊥) → count_listed x ≡ 0
   not_listed x none = sym (count-append x l.pages l.entries) ∙ count-absent x (l.pages ++ l.entries) none
 
-  none-past : (x : ℕ) → a.bump ≤ x → count_listed x ≡ 0
-  none-past x p = not_listed x (λ m. omega (arith, first.below x m))
+  none_past : (x : ℕ) → a.bump ≤ x → count_listed x ≡ 0
+  none_past x p = not_listed x (λ m. omega (arith, first.below x m))
 
   -- a number in use: below the bump, and not in the list once the entries handed out are off it
   record Used (x : ℕ) : Type 0 where
@@ -119,29 +119,29 @@ module _ {s : ℕ} (size : IsPageSize s) {a b : State} (first : Good s a) (c : C
     below : x < up
 
   -- what was handed out is
-  handed-used : (x : ℕ) → Handed l a.bump v.handed x → Used x
+  handed_used : (x : ℕ) → Handed l a.bump v.handed x → Used x
   unfolding k
-  handed-used x (inl t) = record { off = omega (arith, distinct.once x, between_last l.entries v.handed k x refl t); below = under t }
+  handed_used x (inl t) = record { off = omega (arith, distinct.once x, between_last l.entries v.handed k x refl t); below = under t }
     where
       under : Between l.entries (L - v.handed) L x → x < up
       under (i, p, q, e) = omega (arith, e, up_is, first.below _ (Memᴰ.append_right l.pages (get_d-mem l.entries i q)))
-  handed-used x (inr t) = record { off = omega (arith, none-past x t.0); below = omega (arith, t.1, up_is) }
+  handed_used x (inr t) = record { off = omega (arith, none_past x t.0); below = omega (arith, t.1, up_is) }
 
   -- so are the values' numbers,
-  value-used : (x : Value) → Memᴰ x b.values → (n : ℕ) → Memᴰ n x.numbers → Used n
-  value-used x m n i = go (saved.values x m)
+  value_used : (x : Value) → Memᴰ x b.values → (n : ℕ) → Memᴰ n x.numbers → Used n
+  value_used x m n i = go (saved.values x m)
     where
       go : Memᴰ x a.values ⊎ (GetsValue s after x × ((j : ℕ) → Memᴰ j x.numbers → Memᴰ j r.numbers)) → Used n
       go (inl old) = record { off = omega (arith, not_listed n (first.values_apart x old n i)); below = omega (arith, first.values_below x old n i, up_is) }
-      go (inr new) = handed-used n (ran.numbers n (new.1 n i))
+      go (inr new) = handed_used n (ran.numbers n (new.1 n i))
 
   -- and the freed ones
-  freed-used : (x : ℕ) → Memᴰ x freed → Used x
-  freed-used x m = go (dec_lt 0 (count x l.entries))
+  freed_used : (x : ℕ) → Memᴰ x freed → Used x
+  freed_used x m = go (dec_lt 0 (count x l.entries))
     where
       go : Dec (0 < count x l.entries) → Used x
-      go (yes y) = handed-used x (ran.numbers x ((saved.freed x m).2 (count-mem x l.entries (omega arith))))
-      go (no n) = record { off = omega (arith, count-absent x l.pages (saved.freed x m).1); below = (freed-good x m).1 }
+      go (yes y) = handed_used x (ran.numbers x ((saved.freed x m).2 (count-mem x l.entries (omega arith))))
+      go (no n) = record { off = omega (arith, count-absent x l.pages (saved.freed x m).1); below = (freed_good x m).1 }
 
   -- ---- what is to be shown of the list that the finish makes
 
@@ -151,26 +151,26 @@ module _ {s : ℕ} (size : IsPageSize s) {a b : State} (first : Good s a) (c : C
     raised : up ≤ bump
     apart : (x : ℕ) → Used x → count x freed ≡ 0 → count x m.pages + count x m.entries ≡ 0
 
-  values-read : (x : Value) → Memᴰ x b.values → GetsValue s after x
-  values-read x m = go (saved.values x m)
+  values_read : (x : Value) → Memᴰ x b.values → GetsValue s after x
+  values_read x m = go (saved.values x m)
     where
       go : Memᴰ x a.values ⊎ (GetsValue s after x × ((n : ℕ) → Memᴰ n x.numbers → Memᴰ n r.numbers)) → GetsValue s after x
       go (inl old) = (rollback size a after first c).1 x old
       go (inr new) = new.0
 
-  new-good : NewGood b.list b.bump → Good s b
-  new-good g =
+  new_good : NewGood b.list b.bump → Good s b
+  new_good g =
       record {
         reads = subst (λ (p : ℕ). GetsList s after p b.list) (sym (saved.becomes.0 ∙ ap head_of (sym saved.becomes.1))) g.reads;
-        each = values-read;
+        each = values_read;
         different = once_different (b.list.pages ++ b.list.entries) (λ x. omega (arith, g.different.once x, counted x));
         below = λ n m. under n (Memᴰ.append_cases b.list.pages m);
-        values_below = λ x m n i. omega (arith, (value-used x m n i).below, g.raised);
+        values_below = λ x m n i. omega (arith, (value_used x m n i).below, g.raised);
         values_apart = λ x m n i t. omega (
           arith,
           mem-count n (b.list.pages ++ b.list.entries) t,
           counted n,
-          g.apart n (value-used x m n i) (count-absent n freed (saved.not_freed x m n i)),
+          g.apart n (value_used x m n i) (count-absent n freed (saved.not_freed x m n i)),
         );
       }
     where
@@ -204,10 +204,10 @@ module _ {s : ℕ} (size : IsPageSize s) {a b : State} (first : Good s a) (c : C
     kL = omega arith
 
     -- the pages of the finish stand in the store
-    pages-found : f ≡ carried_out s l plan → (j : ℕ) → plan.kept ≤ j + 1 → j < length new.pages
+    pages_found : f ≡ carried_out s l plan → (j : ℕ) → plan.kept ≤ j + 1 → j < length new.pages
         → (page_at s after (get_or new.pages j 0) ≡ (encoded_page s new j).bytes) × (get_or new.pages j 0 < page_count s after)
     unfolding encoded_page
-    pages-found e j p q =
+    pages_found e j p q =
         let w = saved.written (encoded_page s new j) (subst (λ (g : Finished). Memᴰ (encoded_page s new j) g.written) (sym e) (carried_mem s l plan j p q)) in
         (w.1, w.0)
 
@@ -224,36 +224,36 @@ module _ {s : ℕ} (size : IsPageSize s) {a b : State} (first : Good s a) (c : C
     counted : (x : ℕ) → count x new.pages + count x new.entries + count_popped x ≡ count_listed x + count x freed + count x (numbers_from up (plan.bump - up))
     counted x = conserved (capacity s) (omega (arith, size.two_entries)) l k freed up stored.shape x
 
-    new-once : (x : ℕ) → count x new.pages + count x new.entries ≤ 1
-    new-once x = go (dec_lt 0 (count x freed)) (dec_lt x a.bump)
+    new_once : (x : ℕ) → count x new.pages + count x new.entries ≤ 1
+    new_once x = go (dec_lt 0 (count x freed)) (dec_lt x a.bump)
       where
         go : Dec (0 < count x freed) → Dec (x < a.bump) → count x new.pages + count x new.entries ≤ 1
         go (yes y) d =
-            let u = freed-used x (count-mem x freed (omega arith)) in
+            let u = freed_used x (count-mem x freed (omega arith)) in
             omega (arith, counted x, u.off, different_once freed saved.different x, count-before x up (plan.bump - up) u.below)
         go (no n) (yes y) = omega (arith, counted x, distinct.once x, count-before x up (plan.bump - up) (omega (arith, up_is)))
-        go (no n) (no z) = omega (arith, counted x, none-past x (omega arith), count_once x up (plan.bump - up))
+        go (no n) (no z) = omega (arith, counted x, none_past x (omega arith), count_once x up (plan.bump - up))
 
     raised : up ≤ plan.bump
     raised = plan_bump (capacity s) l size.two_entries stored.shape k freed up
 
-    entry-under : (x : ℕ) → Memᴰ x l.entries ⊎ (Memᴰ x l.pages ⊎ Memᴰ x freed) → x < plan.bump
-    entry-under x (inl e) = omega (arith, distinct.entries_under x e, raised)
-    entry-under x (inr (inl e)) = omega (arith, distinct.pages_under x e, raised)
-    entry-under x (inr (inr e)) = omega (arith, (freed-good x e).1, raised)
+    entry_under : (x : ℕ) → Memᴰ x l.entries ⊎ (Memᴰ x l.pages ⊎ Memᴰ x freed) → x < plan.bump
+    entry_under x (inl e) = omega (arith, distinct.entries_under x e, raised)
+    entry_under x (inr (inl e)) = omega (arith, distinct.pages_under x e, raised)
+    entry_under x (inr (inr e)) = omega (arith, (freed_good x e).1, raised)
 
-    changed-good : f ≡ carried_out s l plan → plan.bump ≤ max_bump → NewGood new plan.bump
-    changed-good e limit =
+    changed_good : f ≡ carried_out s l plan → plan.bump ≤ max_bump → NewGood new plan.bump
+    changed_good e limit =
         record {
           reads = gets_list s after (head_of new) new
               (read_stored s after new size.two_entries
               (new-stored s size l k freed up a.store stored distinct kL changed (omega (arith, limit)) after (more-pages size first left)
-              (λ n m. ((freed-good n m).0, (saved.freed n m).0)) kept_same (pages-found e)));
+              (λ n m. ((freed_good n m).0, (saved.freed n m).0)) kept_same (pages_found e)));
           different =
               record {
-                once = new-once;
+                once = new_once;
                 pages_under = pages-below (capacity s) l k freed up size.two_entries stored.shape distinct;
-                entries_under = λ x m. entry-under x (new_entry (capacity s) l k freed up size.two_entries stored.shape x m);
+                entries_under = λ x m. entry_under x (new_entry (capacity s) l k freed up size.two_entries stored.shape x m);
                 bump_some = omega (arith, distinct.bump_some, raised);
               };
           raised = raised;
@@ -264,12 +264,12 @@ module _ {s : ℕ} (size : IsPageSize s) {a b : State} (first : Good s a) (c : C
   unfolding k carried_out
   finish-good =
       finish_cases done ran.of.list (λ (x : Finished). f ≡ x → NewGood x.list x.bump) k refl (λ none _ e. same_good none)
-      (λ changed e. changed-good changed e (omega (arith, done.limit, ap (λ (g : Finished). g.bump) e))) refl
+      (λ changed e. changed_good changed e (omega (arith, done.limit, ap (λ (g : Finished). g.bump) e))) refl
 
-  saved-good : Good s b
-  saved-good =
+  saved_good : Good s b
+  saved_good =
       let (_, list, bump) = saved.becomes in
-      new-good (subst (λ (m : FreeList). NewGood m b.bump) (sym list) (subst (NewGood f.list) (sym bump) finish-good))
+      new_good (subst (λ (m : FreeList). NewGood m b.bump) (sym list) (subst (NewGood f.list) (sym bump) finish-good))
 
 -- ---- seasons
 
@@ -283,7 +283,7 @@ back_good size {a} {after} first c =
 -- After each save, cut or whole, the caller stands as at the first one.
 pub season_good : {s : ℕ} → IsPageSize s → {a b : State} → Good s a → Season s a b → Good s b
 season_good {s} size first (back c e) = subst (Good s) (sym e) (back_good size first c)
-season_good size first (onward c f saved) = saved-good size first c saved
+season_good size first (onward c f saved) = saved_good size first c saved
 
 -- So in any sequence of saves every one starts well,
 pub seasons_good : {s : ℕ} → IsPageSize s → SeasonsGood s

@@ -68,10 +68,10 @@ mem_encoded s m j (suc n) i a b = go (dec_lt j i) (mem_encoded s m (suc j) n i)
 
 -- those carried out are the pages of the new list from the top kept one up
 module _ (s : ℕ) (l : FreeList) (t : Plan) where
-  carried-all : (Q : Write → Type 0) → ((i : ℕ) → t.kept ≤ i + 1 → i < length (new_list l t).pages → Q (encoded_page s (new_list l t) i))
+  carried_all : (Q : Write → Type 0) → ((i : ℕ) → t.kept ≤ i + 1 → i < length (new_list l t).pages → Q (encoded_page s (new_list l t) i))
       → (w : Write) → Memᴰ w (carried_out s l t).written → Q w
   unfolding carried_out
-  carried-all Q f = all_encoded s (new_list l t) Q (t.kept - 1) (length (new_list l t).pages - (t.kept - 1)) (λ i a b. f i (omega arith) (omega arith))
+  carried_all Q f = all_encoded s (new_list l t) Q (t.kept - 1) (length (new_list l t).pages - (t.kept - 1)) (λ i a b. f i (omega arith) (omega arith))
 
   pub carried_mem : (i : ℕ) → t.kept ≤ i + 1 → i < length (new_list l t).pages → Memᴰ (encoded_page s (new_list l t) i) (carried_out s l t).written
   unfolding carried_out
@@ -86,7 +86,7 @@ module _ {s : ℕ} {v : Save} {freed : List ℕ} {f : Finished} (done : Succeeds
       let l = list_of v in
       let k = min v.handed (length l.entries) in
       finish_cases done refl (λ (x : Finished). (w : Write) → Memᴰ w x.written → length w.bytes ≡ s) k refl (λ _ _ w m. absurd (Memᴰ.not-nil m))
-      (λ changed. carried-all s l _ (λ (w : Write). length w.bytes ≡ s)
+      (λ changed. carried_all s l _ (λ (w : Write). length w.bytes ≡ s)
       (λ i a b. encoded_long s size _ (new_shape (capacity s) l k freed (bumped v) size.two_entries (list_shape done.stands) (omega arith) changed) i b))
 
 -- ---- where it writes
@@ -113,8 +113,8 @@ module _ {s : ℕ} (size : IsPageSize s) {store : List ℕ} {l : FreeList} (stor
   entries_fit n m = omega (arith, (stored.entries_inside n m).1, page_count_fits s store)
 
   -- the list's page i as it was encoded reads as it does in the store
-  page-encoded : (i : ℕ) → i < length l.pages → SamePage (page_at s store (get_or l.pages i 0)) (encoded_page s l i).bytes
-  page-encoded i h =
+  page_encoded : (i : ℕ) → i < length l.pages → SamePage (page_at s store (get_or l.pages i 0)) (encoded_page s l i).bytes
+  page_encoded i h =
       record {
         prev = stored.before i h ∙ sym (decoded-before s size l stored.shape i h pages_fit entries_fit);
         entries = stored.entries i h ∙ sym (decoded-entries s size l stored.shape i h pages_fit entries_fit);
@@ -134,11 +134,11 @@ module _ {s : ℕ} (size : IsPageSize s) {store : List ℕ} {l : FreeList} (stor
     page-old i h below m =
         let (last, same) = written_old s l k freed up size.two_entries stored.shape kL changed distinct i h below m in
         let within : i < length l.pages = omega (arith, plan_kept (capacity s) l size.two_entries stored.shape k freed up) in
-        rw (same.number, same.encoded) (page-encoded i within)
+        rw (same.number, same.encoded) (page_encoded i within)
 
     -- a page at another number is at a free one
-    page-new : (n : ℕ) → Memᴰ n new.pages → (0 < count n l.pages → ⊥) → Free l bump n
-    page-new n m none = go (dec_lt 0 (count n l.entries))
+    page_new : (n : ℕ) → Memᴰ n new.pages → (0 < count n l.pages → ⊥) → Free l bump n
+    page_new n m none = go (dec_lt 0 (count n l.entries))
       where
         go : Dec (0 < count n l.entries) → Free l bump n
         go (yes y) = inl (count-mem n l.entries (omega arith))
@@ -146,13 +146,13 @@ module _ {s : ℕ} (size : IsPageSize s) {store : List ℕ} {l : FreeList} (stor
             let past = count_within_lem n up (plan.bump - up) (omega (arith, mem-count n new.pages m, count_new_pages (capacity s) l k freed up size.two_entries stored.shape n)) in
             inr (omega (arith, past.0))
 
-    page-apart : (i : ℕ) → plan.kept ≤ i + 1 → i < length new.pages → Apart s store l bump (encoded_page s new i)
+    page_apart : (i : ℕ) → plan.kept ≤ i + 1 → i < length new.pages → Apart s store l bump (encoded_page s new i)
     unfolding encoded_page
-    page-apart i a b = go (dec_lt 0 (count (get_or new.pages i 0) l.pages))
+    page_apart i a b = go (dec_lt 0 (count (get_or new.pages i 0) l.pages))
       where
         go : Dec (0 < count (get_or new.pages i 0) l.pages) → Apart s store l bump (encoded_page s new i)
         go (yes y) = let old = count-mem (get_or new.pages i 0) l.pages (omega arith) in inr (old, page-old i a b old)
-        go (no y) = inl (page-new (get_or new.pages i 0) (get_d-mem new.pages i b) y)
+        go (no y) = inl (page_new (get_or new.pages i 0) (get_d-mem new.pages i b) y)
 
   -- what a finish of a save of the first list writes
   pub finish_writes : {bump : ℕ} → Different (l.pages ++ l.entries) → ((n : ℕ) → Memᴰ n (l.pages ++ l.entries) → n < bump)
@@ -164,5 +164,5 @@ module _ {s : ℕ} (size : IsPageSize s) {store : List ℕ} {l : FreeList} (stor
       record {
         whole = written_whole done size w m;
         apart = finish_cases done of.list (λ (x : Finished). Memᴰ w x.written → Apart s store l bump w) k refl (λ _ _ h. absurd (Memᴰ.not-nil h))
-            (λ changed. carried-all s l _ (Apart s store l bump) (page-apart k freed bump (bumped v) raised distinct (omega arith) changed) w) m;
+            (λ changed. carried_all s l _ (Apart s store l bump) (page_apart k freed bump (bumped v) raised distinct (omega arith) changed) w) m;
       }

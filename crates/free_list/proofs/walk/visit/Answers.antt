@@ -53,12 +53,12 @@ module _ {s : ℕ} {store : List ℕ} {loose : Bool} {count : ℕ} {w : Walk} {b
   few e = omega (arith, small e, f.may.size.limit)
 
   module _ (fit : fits ≡ true) {entries : Bool} (listed : entries ≡ all_entries_fit count (numbers_at 4 b 6 n)) where
-    entries-of : {r : Bool} → entries ≡ r → all_entries_fit (page_count s store) (entries_of (page_at s store w.page)) ≡ r
+    entries_of_lem : {r : Bool} → entries ≡ r → all_entries_fit (page_count s store) (entries_of (page_at s store w.page)) ≡ r
     unfolding entries_of
-    entries-of e = rw (← f.bytes, ← f.counted, ← f.may.counted) (sym listed ∙ e)
+    entries_of_lem e = rw (← f.bytes, ← f.counted, ← f.may.counted) (sym listed ∙ e)
 
     entry-unfit : entries ≡ false → refused 4 (w.page ∷ []) ≡ size_from s store loose w
-    entry-unfit e = size-entry s store loose w f.may.allowed f.may.some f.inside (f.tested ∙ fit) (entries-of e)
+    entry-unfit e = size-entry s store loose w f.may.allowed f.may.some f.inside (f.tested ∙ fit) (entries_of_lem e)
 
     -- the page is passed
     next : {q : ℕ} → q ≡ prev_within b → entries ≡ true
@@ -67,14 +67,14 @@ module _ {s : ℕ} {store : List ℕ} {loose : Bool} {count : ℕ} {w : Walk} {b
     next before e =
         let under = before ∙ prev_within_lem b (omega (arith, f.long, f.least)) ∙ ap prev_of f.bytes in
         record {
-          size = rw (under, f.counted, f.bytes) (size-next s store loose w f.may.allowed f.may.some f.inside (f.tested ∙ fit) (entries-of e));
+          size = rw (under, f.counted, f.bytes) (size-next s store loose w f.may.allowed f.may.some f.inside (f.tested ∙ fit) (entries_of_lem e));
           advanced =
               record {
                 fewer = omega (arith, f.may.allowed);
                 fits = record { few = omega (arith, f.may.fits.few, f.may.allowed); few_entries = omega (arith, f.may.fits.few_entries, small fit, f.may.size.limit) };
                 more = refl;
                 before = under;
-                passable = λ h. record { some = f.may.some; inside = f.inside; fits = sym (fits_deep loose (capacity s) w.pages w.entries _ h) ∙ f.tested ∙ fit; entries_fit = entries-of e };
+                passable = λ h. record { some = f.may.some; inside = f.inside; fits = sym (fits_deep loose (capacity s) w.pages w.entries _ h) ∙ f.tested ∙ fit; entries_fit = entries_of_lem e };
               };
         }
 
