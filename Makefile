@@ -15,13 +15,13 @@ run:
 	@tools/prove run sizing target/bin/sizing
 	@if [ -t 0 ]; then printf '1\n61381\n0\n7a\n' | target/bin/sizing; else target/bin/sizing; fi
 
-# Everything that a change must pass. The gate comes last, and proves all from nothing.
+# Everything that a change must pass. The gate, rt ci, comes last.
 test: interface limits example sized
 	@if [ -d "$(NOMT_SRC)" ]; then $(ORACLE) -p compare -- --short && $(ORACLE) -p compare -- --self-test; \
 	else echo "comparison with the Rust: skipped, there is no $(NOMT_SRC)"; fi
 	@if command -v cargo >/dev/null; then $(ORACLE) -p cuts -- --short && $(ORACLE) -p cuts -- --self-test; \
 	else echo "cuts: skipped, there is no cargo"; fi
-	@rt ci
+	@tools/gate
 
 # The static library, proved.
 lib:
