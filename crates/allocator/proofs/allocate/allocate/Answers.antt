@@ -1,3 +1,4 @@
+-- `allocate` meets its contract: its tests are the definition's, in order; the state bounds what is read and added.
 use Rattle.std.proofs.Common.{◌≡◌, ℕ, ◌-◌, Bool}
 use Rattle.page.specs.PageSize.{page_bytes}
 use Rattle.page.specs.declared.size.PageSize.{PageSize}

@@ -1,3 +1,4 @@
+-- `grown_for` meets its contract: up to the largest bump `grow` answers.
 use Rattle.std.proofs.Common.{◌≡◌, ◌≤◌, ℕ, List}
 use Rattle.page.specs.Growth.{max_bump, grown}
 use Rattle.allocator.proofs.save.grown_for.Goals as goal

@@ -1,3 +1,4 @@
+-- `shape_fits` meets its contract: the shape by division.
 use Rattle.allocator.proofs.save.shape_fits.Goals as goal
 use Rattle.allocator.proofs.SaveLaws.{shape_none, shape_few, shape_enough}
 

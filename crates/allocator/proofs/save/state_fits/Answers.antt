@@ -1,3 +1,4 @@
+-- `state_fits` meets its contract: its tests are the definition's, in order.
 use Rattle.std.proofs.Common.{◌≡◌, ℕ, Bool}
 use Rattle.free_list.specs.Shape.{is_shape}
 use Rattle.allocator.specs.OpenSave.{state_fits}

@@ -1,3 +1,4 @@
+-- `hand_out` meets its contract: what was handed out and counted up is carried over.
 use Rattle.calls.proofs.saves.hand_out.Goals as goal
 use mathlib.Core.Path.{◌∙◌}
 use Rattle.refusal.proofs.CalledLaws.{reported}

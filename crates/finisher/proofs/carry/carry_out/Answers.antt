@@ -1,3 +1,5 @@
+-- `carry_out` meets its contract: the number list, the tables and the pages are what the finish makes; where no page is written, it
+-- changes nothing.
 use Rattle.finisher.proofs.carry.carry_out.Goals as goal
 use native.Mathlib.Omega.{arith}
 use Rattle.finisher.proofs.CarryLaws.{bytes_enough, numbers_enough, goes_doable, goes_same, numbers_filled, numbers_carried, encodable, buffer-carried}

@@ -1,3 +1,4 @@
+-- `fill_numbers` meets its contract: the plan's new pages, behind the top page's number where one is kept.
 use Rattle.std.proofs.Common.{◌≡◌, ℕ, ◌-◌, ◌≤◌, length, List, ◌∷◌}
 use Rattle.std.proofs.lemmas.List.Edits.{sets}
 use Rattle.finisher.specs.Answers.{save_with}

@@ -1,3 +1,4 @@
+-- `new_pages` meets its contract: the plan is made again, and all its numbers have 32 bits.
 use Rattle.finisher.proofs.carry.new_pages.Goals as goal
 use native.Mathlib.Omega.{arith}
 use Rattle.finisher.proofs.CarryLaws.{planable, named_again}

@@ -1,3 +1,4 @@
+-- `write_tables` meets its contract: the push list behind the entries left and the numbers behind the pages kept make the new list.
 use Rattle.std.proofs.Common.{◌≡◌, ℕ, ◌-◌, ◌*◌, Bool}
 use Rattle.finisher.proofs.carry.write_tables.Goals as goal
 use mathlib.Core.Path.{ap, ◌∙◌}

@@ -1,3 +1,4 @@
+-- `encode_page` meets its contract: the entries of page j stand between those below it and those below the next.
 use Rattle.std.proofs.Common.{◌-◌, ◌≤◌, length}
 use Rattle.finisher.proofs.encode.encode_page.Goals as goal
 use mathlib.Core.Path.{◌∙◌}

@@ -1,3 +1,4 @@
+-- `encode_pages` meets its contract. The loop's invariant: the pages from `first` up to page j stand in the buffer, one behind the other.
 use Rattle.std.proofs.Common.{◌-◌, ◌≡◌, ◌*◌, ◌≤◌, length}
 use Rattle.std.proofs.lemmas.List.Edits.{sets}
 use Rattle.preallocate.specs.Counts.{table_list}

@@ -1,3 +1,4 @@
+-- `entries_below` meets its contract: each place of the definition is a test here.
 use Rattle.finisher.proofs.encode.entries_below.Goals as goal
 use mathlib.Core.Path.{sym, ◌∙◌}
 use native.Mathlib.Omega.{arith}

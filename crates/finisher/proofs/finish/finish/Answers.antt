@@ -1,3 +1,4 @@
+-- `finish` meets its contract: what was judged is the outcome, and the work is written.
 use Rattle.std.proofs.Common.{◌≡◌, ℕ}
 use Rattle.refusal.specs.Effect.{effect}
 use Rattle.page.specs.PageSize.{IsPageSize, page_bytes}

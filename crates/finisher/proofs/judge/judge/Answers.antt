@@ -1,3 +1,5 @@
+-- `judge` meets its contract: its tests are those of `finish`, in order. Each has one law here, which says its value in the definition's
+-- terms; a return rewrites with the tests that led to it.
 use Rattle.std.proofs.Common.{◌≡◌, ◌&&◌, ◌*◌, ◌+◌, ◌-◌, ◌<◌, ◌≤◌, leb, ℕ, length, List, Bool, true, false, le-leb, eq-eqb, ne_eqb}
 use Rattle.page.specs.PageSize.{IsPageSize}
 use Rattle.finisher.specs.Answers.{save_with}

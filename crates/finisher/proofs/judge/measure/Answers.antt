@@ -1,3 +1,4 @@
+-- `measure` meets its contract: a save that changes nothing keeps all; another's work is counted from its plan.
 use Rattle.std.proofs.Common.{◌≡◌, ◌&&◌, ℕ, false, eq-eqb, ne_eqb}
 use Rattle.finisher.proofs.judge.measure.Goals as goal
 use native.Mathlib.Omega.{arith}

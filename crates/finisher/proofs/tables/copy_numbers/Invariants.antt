@@ -1,3 +1,4 @@
+-- `copy_numbers` meets its contract. The loop's invariant: the table holds the first i numbers.
 use Rattle.std.proofs.Common.{◌-◌, ◌≡◌, ◌≤◌, length, take}
 use Rattle.std.proofs.lemmas.List.Edits.{sets}
 use Rattle.finisher.proofs.tables.copy_numbers.Given as goal

@@ -1,3 +1,4 @@
+-- `first_bad` meets its contract. The loop's invariant: the numbers before place i are good.
 use Rattle.std.proofs.Common.{length, ◌-◌, ◌≡◌, ◌+◌, ◌≤◌, drop}
 use Rattle.finisher.specs.Finish.{first_bad}
 use Rattle.finisher.proofs.tables.first_bad.Given as goal

@@ -1,3 +1,4 @@
+-- `push_pages` meets its contract. The loop's invariant: the table holds the numbers from the top down to `page`.
 use Rattle.std.proofs.Common.{◌≡◌, reverse, ◌+◌, ◌≤◌, length, take, drop}
 use Rattle.std.proofs.lemmas.List.Edits.{sets}
 use Rattle.finisher.proofs.tables.push_pages.Given as goal

@@ -1,3 +1,4 @@
+-- `write_pushes` meets its contract: the freed numbers, the pages behind them, and the first two of these in turn where asked.
 use Rattle.std.proofs.Common.{◌≡◌, length, take}
 use Rattle.finisher.proofs.tables.write_pushes.Goals as goal
 use native.Mathlib.Omega.{arith}

@@ -1,3 +1,4 @@
+-- `encode_free_list_page` meets its contract: bytes that end within the header stay, others are made a page of the entries that fit.
 use Rattle.free_list.specs.ListPages.{page_within}
 use Rattle.free_list.proofs.encode.encode_free_list_page.Goals as goal
 use native.Mathlib.Omega.{arith}

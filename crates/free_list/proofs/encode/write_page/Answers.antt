@@ -1,3 +1,4 @@
+-- `write_page` meets its contract: the header, the entries and the zeros behind them fill the page.
 use Rattle.std.proofs.Common.{length, take}
 use Rattle.free_list.proofs.encode.write_page.Goals as goal
 use mathlib.Core.Path.{refl}

@@ -1,3 +1,4 @@
+-- `max_pns_per_page` meets its contract: a page has room for its header.
 use Rattle.page.specs.PageSize.{capacity}
 use Rattle.free_list.proofs.list_page.max_pns_per_page.Goals as goal
 use mathlib.Core.Path.{refl}

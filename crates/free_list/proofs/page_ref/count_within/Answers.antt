@@ -1,3 +1,4 @@
+-- `count_within` meets its contract: its test is the definition's.
 use Rattle.free_list.proofs.page_ref.count_within.Goals as goal
 use mathlib.Core.Path.{sym, ◌∙◌}
 use Rattle.free_list.proofs.ListPagesLaws.{count_within_lem, count_past}

@@ -1,3 +1,4 @@
+-- `item_within` meets its contract: its tests say where the entry ends, with no product that may not fit.
 use Rattle.free_list.proofs.page_ref.item_within.Goals as goal
 use mathlib.Core.Path.{sym, ◌∙◌}
 use native.Mathlib.Omega.{arith}

@@ -1,3 +1,4 @@
+-- `prev_within` meets its contract: its test is the definition's.
 use Rattle.free_list.proofs.page_ref.prev_within.Goals as goal
 use mathlib.Core.Path.{sym, ◌∙◌}
 use Rattle.free_list.proofs.ListPagesLaws.{prev_within_lem, prev_past}

@@ -1,3 +1,5 @@
+-- `fill` meets its contract. The loop's invariant is `Filling`: what stands in the tables and what is still to be written make the list.
+-- The measure is the pages left.
 use Rattle.free_list.proofs.read.fill.Given as goal
 use Rattle.free_list.proofs.FillingLaws.{Filling}
 

@@ -1,3 +1,5 @@
+-- `measure` meets its contract. The loop's invariant: the list's size is that of the walk so far, which has come from its mark. The
+-- measure is the pages still allowed.
 use Rattle.std.proofs.Common.{◌≡◌, ℕ, ◌+◌, ◌≤◌}
 use Rattle.free_list.specs.Steps.{read_size}
 use Rattle.free_list.proofs.read.measure.Given as goal

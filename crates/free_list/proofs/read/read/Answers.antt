@@ -1,3 +1,4 @@
+-- `read` meets its contract: what the walk found is the list's size or its refusal; the rest is the room in the tables.
 use Rattle.std.proofs.Common.{◌≡◌, ℕ, Bool, List}
 use Rattle.refusal.specs.Effect.{effect}
 use Rattle.free_list.specs.Reading.{read_outcome}

@@ -1,3 +1,4 @@
+-- `count_fits` meets its contract: its tests are the definition's, in order.
 use Rattle.free_list.specs.Reading.{count_fits}
 use Rattle.free_list.proofs.walk.count_fits.Goals as goal
 use borrow.Author.Tests.{le-leb, lt-leb, eq-eqb, ne_eqb}

@@ -1,3 +1,4 @@
+-- `entries_fit` meets its contract. The loop's invariant: the first i entries fit where none of them was counted as bad.
 use Rattle.std.proofs.Common.{◌-◌, ◌≡◌, eqb, ◌≤◌}
 use Rattle.page.specs.Bytes.{numbers_at}
 use Rattle.free_list.specs.Reading.{all_entries_fit}

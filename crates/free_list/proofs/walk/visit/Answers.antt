@@ -1,3 +1,4 @@
+-- `visit` meets its contract: its tests are those of the definition, in order.
 use Rattle.std.proofs.Common.{◌≡◌, ◌+◌, ◌*◌, ◌<◌, ◌≤◌, length, ℕ, ◌-◌, Bool, true, false, List, [], ◌∷◌}
 use Rattle.page.specs.Bytes.{numbers_at}
 use Rattle.free_list.specs.Reading.{count_fits, all_entries_fit}

@@ -1,3 +1,4 @@
+-- `find` meets its contract: each way out is one law, and a page that was found lies in its slice.
 use Rattle.lookup.proofs.find.find.Goals as goal
 use native.Mathlib.Omega.{arith}
 use Rattle.lookup.proofs.LookupLaws.{is_size, page_some, find-short, find-pending, find-missing, find-stored, found_within}

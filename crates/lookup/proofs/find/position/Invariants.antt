@@ -1,3 +1,4 @@
+-- `position` meets its contract. The loop's invariant: no number before place i is the page.
 use Rattle.std.proofs.Common.{length, ◌-◌, ◌≡◌, ◌+◌, ◌≤◌}
 use Rattle.lookup.specs.Lookup.{first_of}
 use Rattle.lookup.proofs.find.position.Given as goal

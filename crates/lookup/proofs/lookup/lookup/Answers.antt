@@ -1,3 +1,4 @@
+-- `lookup` meets its contract: where `find` says that the page lies, its bytes are there.
 use Rattle.lookup.proofs.lookup.lookup.Goals as goal
 use native.Mathlib.Omega.{arith}
 use Rattle.lookup.proofs.LookupLaws.{found_within, lookup-pending, lookup-stored, lookup-refused}

@@ -1,3 +1,4 @@
+-- `admit` meets its contract: one law for each test.
 use Rattle.overflow.proofs.admit.admit.Goals as goal
 use Rattle.overflow.proofs.CellsLaws.{decoding}
 use Rattle.overflow.proofs.AdmitLaws.{admit_undecoded, decoded-few, admit-empty, admit-numbers, admit-bytes, admit-all}

@@ -1,3 +1,4 @@
+-- `cell_counts` meets its contract: each test is one of the definition's.
 use Rattle.overflow.specs.Cells.{cell_counts}
 use Rattle.overflow.proofs.cell.cell_counts.Goals as goal
 use borrow.Author.Tests.{le-leb, lt-leb, eq-eqb, ne_eqb}

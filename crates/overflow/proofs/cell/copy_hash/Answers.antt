@@ -1,3 +1,4 @@
+-- `copy_hash` meets its contract: each word goes behind those before it.
 use Rattle.overflow.proofs.cell.copy_hash.Goals as goal
 use mathlib.Core.Path.{◌∙◌}
 use native.Mathlib.Omega.{arith}

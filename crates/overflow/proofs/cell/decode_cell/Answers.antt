@@ -1,3 +1,4 @@
+-- `decode_cell` meets its contract: the counts are known, and the hash is put where it was lent.
 use Rattle.overflow.proofs.cell.decode_cell.Goals as goal
 use native.Mathlib.Omega.{arith}
 use Rattle.overflow.proofs.CellsLaws.{decoding, into-refused, into-decoded}

@@ -1,3 +1,4 @@
+-- `encode_cell` meets its contract: one law for each refusal and one for the cell.
 use Rattle.overflow.proofs.cell.encode_cell.Goals as goal
 use native.Mathlib.Omega.{arith}
 use Rattle.overflow.proofs.CellsLaws.{cell_large, cell-short, cell-written}

@@ -1,3 +1,4 @@
+-- `bytes_on` meets its contract: the place and the count in one step, with the numbers of the page known.
 use Rattle.std.proofs.Common.{◌-◌}
 use Rattle.overflow.proofs.chunk.bytes_on.Goals as goal
 use native.Mathlib.Omega.{arith}

@@ -1,3 +1,4 @@
+-- `chunk` meets its contract: one law for each refusal and one for the page.
 use Rattle.std.proofs.Common.{length}
 use Rattle.overflow.proofs.chunk.chunk.Goals as goal
 use Rattle.overflow.proofs.TotalsLaws.{is_page-size, total_few}

@@ -1,3 +1,4 @@
+-- `numbers_on` meets its contract: the place and the count in one step.
 use Rattle.std.proofs.Common.{◌-◌, ◌/◌}
 use Rattle.overflow.proofs.chunk.numbers_on.Goals as goal
 use native.Mathlib.Omega.{arith}

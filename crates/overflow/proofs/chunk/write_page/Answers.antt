@@ -1,3 +1,4 @@
+-- `write_page` meets its contract: the parts are those of the definition, and fit the page.
 use Rattle.overflow.specs.Layout.{bytes_part}
 use Rattle.overflow.specs.ValuePages.{value_page}
 use Rattle.overflow.proofs.chunk.write_page.Goals as goal

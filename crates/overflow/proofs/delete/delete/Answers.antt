@@ -1,3 +1,4 @@
+-- `delete` meets its contract: the cell is refused, or the numbers of its value are collected.
 use Rattle.overflow.proofs.delete.delete.Goals as goal
 use mathlib.Core.Path.{refl, sym, ap, ◌∙◌}
 use Rattle.overflow.specs.Steps.{admitted_outcome}

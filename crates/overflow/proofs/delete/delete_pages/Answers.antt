@@ -1,3 +1,4 @@
+-- `delete_pages` meets its contract: one law for each way in which the walk comes out.
 use Rattle.overflow.proofs.delete.delete_pages.Goals as goal
 use Rattle.overflow.proofs.ReadLaws.{walk_ended, delete_stopped, delete-numbers, delete-all}
 

@@ -1,3 +1,4 @@
+-- `copy_value` meets its contract. The loop's invariant is `Copying`: the bytes of the first i pages stand in the buffer.
 use Rattle.std.proofs.Common.{◌-◌}
 use Rattle.overflow.proofs.read.copy_value.Given as goal
 use Rattle.overflow.proofs.CopyingLaws.{Copying}

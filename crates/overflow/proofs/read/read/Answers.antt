@@ -1,3 +1,4 @@
+-- `read` meets its contract: the cell is refused, or its value is read.
 use Rattle.overflow.proofs.read.read.Goals as goal
 use mathlib.Core.Path.{refl, ◌∙◌}
 use Rattle.overflow.proofs.TotalsLaws.{is_page-size}

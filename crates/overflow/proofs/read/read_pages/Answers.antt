@@ -1,3 +1,4 @@
+-- `read_pages` meets its contract: one law for each way in which the walk comes out.
 use Rattle.overflow.proofs.read.read_pages.Goals as goal
 use Rattle.overflow.proofs.ReadLaws.{walk_ended, read-stopped, read-numbers, read-bytes, copyable, read_all}
 

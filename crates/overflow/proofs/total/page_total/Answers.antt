@@ -1,3 +1,4 @@
+-- `page_total` meets its contract: both tests of the size, and what is told of it is as the callees say.
 use Rattle.overflow.specs.Totals.{page_total}
 use Rattle.overflow.proofs.total.page_total.Goals as goal
 use native.Mathlib.Omega.{arith}

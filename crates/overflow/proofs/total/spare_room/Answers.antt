@@ -1,3 +1,4 @@
+-- `spare_room` meets its contract: the pages hold the value and the numbers that the cell has no place for, so no difference is cut off.
 use Rattle.std.proofs.Common.{◌≡◌, ◌≤◌, ℕ, ◌+◌, ◌-◌, ◌*◌, ◌<◌}
 use Rattle.page.specs.PageSize.{IsPageSize}
 use Rattle.overflow.specs.Totals.{max_size, total_pages, spare_room}

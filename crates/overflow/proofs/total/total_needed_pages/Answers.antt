@@ -1,3 +1,4 @@
+-- `total_needed_pages` meets its contract: its tests are the rule's, and no sum wraps, since the raw pages are few and hold the bytes.
 use Rattle.std.proofs.Common.{◌≡◌, ◌≤◌, ℕ, ◌+◌, ◌*◌, ◌<◌}
 use Rattle.page.specs.PageSize.{IsPageSize}
 use Rattle.overflow.specs.Totals.{max_size, raw_pages, total_pages}

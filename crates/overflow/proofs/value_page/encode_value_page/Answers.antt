@@ -1,3 +1,4 @@
+-- `encode_value_page` meets its contract: the counts, the numbers, the bytes and the zeros behind them are the page.
 use Rattle.std.proofs.Common.{◌≡◌, length}
 use Rattle.overflow.specs.Layout.{part_of}
 use Rattle.overflow.proofs.value_page.encode_value_page.Goals as goal

@@ -1,3 +1,4 @@
+-- `left_after` meets its contract: its tests are the definition's.
 use Rattle.overflow.specs.Steps.{left_after}
 use Rattle.overflow.proofs.walk.left_after.Goals as goal
 use borrow.Author.Tests.{le-leb, lt-leb}

@@ -1,3 +1,4 @@
+-- `parse_page` meets its contract: each return is one of the page's tests.
 use Rattle.std.proofs.Common.{◌≡◌, ◌+◌, ◌*◌, ◌<◌, ◌≤◌, length, ℕ, List, [], ◌∷◌}
 use Rattle.page.specs.PageSize.{IsPageSize}
 use Rattle.page.specs.Pages.{page_count}

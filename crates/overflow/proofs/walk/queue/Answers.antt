@@ -1,3 +1,4 @@
+-- `queue` meets its contract: the numbers read are the first ones, as many as there is room for.
 use Rattle.std.proofs.Common.{◌≡◌, ◌-◌, ◌<◌, take, ℕ, List}
 use Rattle.page.specs.Bytes.{numbers_at}
 use Rattle.overflow.proofs.walk.queue.Goals as goal

@@ -1,3 +1,4 @@
+-- `visit_page` meets its contract: the number is known or not, and the page is refused or its numbers are queued.
 use Rattle.overflow.specs.Steps.{visit_into}
 use Rattle.overflow.proofs.walk.visit_page.Goals as goal
 use native.Mathlib.Omega.{arith}

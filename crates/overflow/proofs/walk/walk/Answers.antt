@@ -1,3 +1,4 @@
+-- `walk` meets its contract: the cell's numbers are queued, and the walk over the pages goes on from there.
 use Rattle.overflow.proofs.walk.walk.Goals as goal
 use mathlib.Core.Path.{refl, ◌∙◌}
 use Rattle.overflow.specs.Cells.{cell_count}

@@ -1,3 +1,5 @@
+-- `walk_pages` meets its contract. The loop's invariant is `Walking`: what is left to do is the rest of the whole walk. The measure is
+-- the pages left.
 use Rattle.overflow.specs.Reading.{in_store}
 use Rattle.overflow.proofs.walk.walk_pages.Given as goal
 use Rattle.overflow.proofs.TableLaws.{Walking}

@@ -1,3 +1,4 @@
+-- `copy` meets its contract. The loop's invariant: the first i bytes are copied.
 use Rattle.std.proofs.Common.{◌-◌, ◌≡◌, ◌≤◌, length, take, drop}
 use Rattle.std.proofs.lemmas.List.Edits.{sets}
 use Rattle.page.proofs.copy.copy.Given as goal

@@ -1,3 +1,4 @@
+-- `copy_steps` meets its contract. The loop's invariant: eight bytes are copied for each step.
 use Rattle.std.proofs.Common.{◌≡◌, ◌*◌, ◌≤◌, length, take, drop, ◌-◌}
 use Rattle.std.proofs.lemmas.List.Edits.{sets}
 use Rattle.page.proofs.copy.copy_steps.Given as goal

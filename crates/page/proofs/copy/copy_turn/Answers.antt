@@ -1,3 +1,4 @@
+-- `copy_turn` meets its contract: the bytes of the words that were read are those that they were read from.
 use Rattle.std.proofs.Common.{ℕ, List}
 use Rattle.std.proofs.lemmas.List.Edits.{sets}
 use Rattle.page.proofs.copy.copy_turn.Goals as goal

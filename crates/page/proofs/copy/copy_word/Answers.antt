@@ -1,3 +1,4 @@
+-- `copy_word` meets its contract: the bytes of the number that was read are those that it was read from.
 use Rattle.page.proofs.copy.copy_word.Goals as goal
 use mathlib.Core.Path.{◌∙◌}
 use native.Mathlib.Omega.{arith}

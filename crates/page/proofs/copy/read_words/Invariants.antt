@@ -1,3 +1,4 @@
+-- `read_words` meets its contract. The loop's invariant: the array holds the first i words.
 use Rattle.std.proofs.Common.{◌-◌, ◌≡◌, ◌≤◌, length}
 use Rattle.std.proofs.lemmas.List.Edits.{sets}
 use Rattle.page.specs.Bytes.{numbers_at}

@@ -1,3 +1,4 @@
+-- `write_words` meets its contract. The loop's invariant: the bytes hold the first words, one for each step.
 use Rattle.std.proofs.Common.{◌-◌, ◌≡◌, ◌≤◌, length, take}
 use Rattle.std.proofs.lemmas.List.Edits.{sets}
 use Rattle.page.specs.Bytes.{bytes_of_all}

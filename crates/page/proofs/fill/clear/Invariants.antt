@@ -1,3 +1,4 @@
+-- `clear` meets its contract. The loop's invariant: the bytes from `from` up to i are zero, and i goes no further than `to`.
 use Rattle.std.proofs.Common.{◌-◌, ◌≡◌, ◌≤◌, length, replicate}
 use Rattle.std.proofs.lemmas.List.Edits.{sets}
 use Rattle.page.proofs.fill.clear.Given as goal

@@ -1,3 +1,4 @@
+-- `clear_steps` meets its contract. The loop's invariant: eight bytes are zero for each step.
 use Rattle.std.proofs.Common.{◌≡◌, ◌-◌, ◌≤◌, length, replicate, ◌*◌}
 use Rattle.std.proofs.lemmas.List.Edits.{sets}
 use Rattle.page.proofs.fill.clear_steps.Given as goal

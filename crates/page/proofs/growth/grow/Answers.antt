@@ -1,3 +1,4 @@
+-- `page::growth::grow` meets its contract: the test is the definition's, and the sum is the same.
 use Rattle.page.specs.Growth.{grow}
 use Rattle.page.proofs.growth.grow.Goals as goal
 use mathlib.Core.Path.{ap}

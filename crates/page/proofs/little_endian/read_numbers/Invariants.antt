@@ -1,3 +1,4 @@
+-- `read_numbers` meets its contract. The loop's invariant: the table holds the first i numbers.
 use Rattle.std.proofs.Common.{◌-◌, ◌≡◌, ◌≤◌, length}
 use Rattle.std.proofs.lemmas.List.Edits.{sets}
 use Rattle.page.specs.Bytes.{numbers_at}

@@ -1,3 +1,4 @@
+-- `read_u64` meets its contract, by its two halves.
 use Rattle.page.proofs.little_endian.read_u64.Goals as goal
 use Rattle.page.proofs.BytesLaws.{read_halves}
 

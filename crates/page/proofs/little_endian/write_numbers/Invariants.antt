@@ -1,3 +1,4 @@
+-- `write_numbers` meets its contract. The loop's invariant: the bytes hold the first i numbers.
 use Rattle.std.proofs.Common.{◌-◌, ◌≡◌, ◌≤◌, length, take, drop}
 use Rattle.std.proofs.lemmas.List.Edits.{sets}
 use Rattle.page.specs.Bytes.{bytes_of_all}

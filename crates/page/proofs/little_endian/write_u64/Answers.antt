@@ -1,3 +1,4 @@
+-- `write_u64` meets its contract, by its two halves.
 use Rattle.page.proofs.little_endian.write_u64.Goals as goal
 use Rattle.page.proofs.BytesLaws.{written_halves}
 

@@ -1,3 +1,4 @@
+-- `page_at` meets its contract: a page below the page count lies in the store.
 use Rattle.std.proofs.Common.{◌≡◌, ◌+◌, ◌-◌, ◌*◌, ◌≤◌, length}
 use Rattle.page.specs.Pages.{page_at}
 use Rattle.page.proofs.store.page_at.Goals as goal

@@ -1,3 +1,4 @@
+-- `page_count` meets its contract: the quotient, or the largest page count where it is above that.
 use Rattle.page.specs.Pages.{page_count}
 use Rattle.page.proofs.store.page_count.Goals as goal
 use native.Mathlib.Omega.{arith}

@@ -1,3 +1,4 @@
+-- `bytes` meets its contract, in each branch of the limit.
 use Rattle.page.specs.PageSize.{page_bytes}
 use Rattle.page.proofs.size.PageSize.bytes.Goals as goal
 use native.Mathlib.Omega.{arith}
