@@ -1,9 +1,9 @@
 -- How a store grows.
-use Rattle.std.specs.Prelude.{ℕ, ◌+◌, ◌*◌, ◌-◌, ◌/◌, [], leb}
+use Rattle.std.specs.Prelude.{ℕ, ◌+◌, ◌*◌, ◌-◌, ◌/◌, [], leb, Result}
 use Rattle.refusal.specs.Outcome.{Outcome, answer, check}
-use Rattle.refusal.specs.Refusals.{refusal}
-use Rattle.page.specs.declared.growth.Grown.{Grown}
-use Rattle.page.specs.declared.growth.Grown.TheVariants.{To, Refused}
+use Rattle.refusal.specs.Refusals.{outcome}
+use Rattle.refusal.specs.declared.Refusal.{Refusal}
+use Rattle.page.specs.declared.number.PageNumber.{PageNumber}
 
 -- the largest bump: what `grow` makes of it is still a page number
 abbrev pub max_bump : ℕ
@@ -26,6 +26,5 @@ unfoldable pub grow : ℕ → Outcome ℕ
 grow g = check (leb g max_bump) 7 [] (answer (grown g))
 
 -- what the code answers, as an outcome
-abbrev pub grown_outcome : Grown → Outcome ℕ
-grown_outcome (To page) = answer page.0
-grown_outcome (Refused r) = refusal r
+abbrev pub grown_outcome : Result PageNumber Refusal → Outcome ℕ
+grown_outcome = outcome (λ page. page.0)

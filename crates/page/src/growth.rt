@@ -5,23 +5,16 @@ ghost use Rattle.page.specs.Growth.{grow, grown_outcome};
 use crate::number::PageNumber;
 use refusal::Refusal;
 
-// The store's new length in pages, or refusal 7.
-#[derive(Clone, Copy)]
-pub enum Grown {
-    To(PageNumber),
-    Refused(Refusal),
-}
-
 // The largest bump: what `grow` makes of it is still a page number.
 pub const MAX_BUMP: u32 = 4294950913;
 
-// The least multiple of 8,192 that leaves room for 8,191 pages from `page` on.
-pub fn grow(page: PageNumber) -> Grown
+// The store's new length in pages, or refusal 7: the least multiple of 8,192 that leaves room for 8,191 pages from `page` on.
+pub fn grow(page: PageNumber) -> Result<PageNumber, Refusal>
     ensures { grown_outcome result ≡ grow page.0 }
 {
     let g = page.0;
     if MAX_BUMP < g {
-        return Grown::Refused(Refusal::Limit);
+        return Err(Refusal::Limit);
     }
-    Grown::To(PageNumber((g + 16382) / 8192 * 8192))
+    Ok(PageNumber((g + 16382) / 8192 * 8192))
 }

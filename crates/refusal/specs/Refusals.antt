@@ -1,6 +1,6 @@
 -- Document 01's table 'What stops a call': the number of each refusal, and the values returned with it.
-use Rattle.std.specs.Prelude.{ℕ, List, [], ◌∷◌}
-use Rattle.refusal.specs.Outcome.{Outcome, refused}
+use Rattle.std.specs.Prelude.{ℕ, List, [], ◌∷◌, Result, Ok, Err}
+use Rattle.refusal.specs.Outcome.{Outcome, answer, refused}
 use Rattle.refusal.specs.declared.Refusal.{Refusal}
 use Rattle.refusal.specs.declared.Refusal.TheVariants.{State, ListPage, Count, Entry, Chain, Tables, Limit, Freed, Buffer, Size, Index, Cell, Room, Unknown, Missing, ValuePage, Numbers, Bytes}
 
@@ -49,3 +49,8 @@ values Bytes = []
 -- the outcome that a refusal is
 abbrev pub refusal : {A : Type 0} → Refusal → Outcome A
 refusal r = refused (number r) (values r)
+
+-- what the code answers, as an outcome: `told` says what an answer is to a definition
+abbrev pub outcome : {A B : Type 0} → (A → B) → Result A Refusal → Outcome B
+outcome told (Ok a) = answer (told a)
+outcome told (Err r) = refusal r
