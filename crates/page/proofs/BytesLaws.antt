@@ -2,28 +2,16 @@
 use Prim.Native.Nat.{ℕ, zero, suc, ◌+◌, ◌*◌, ◌/◌, ◌%◌, ◌^◌, ◌<◌, ◌≤◌}
 use mathlib.Core.Path.{◌≡◌, refl, ◌∙◌, ap, ap₂}
 use mathlib.Core.List.{List, [], ◌∷◌, ◌++◌, append_assoc, append-nil, Memᴰ}
-use native.Mathlib.Nat.{le_of_suc-le-suc, not-suc-le-zero, mul-zero, mul-suc, zero-add, add-zero, suc-add, add_assoc, pow-zero, pow-suc, pow-succ', div-one, div-div-eq-div-mul, div-lt_iff_lt-mul}
+use native.Mathlib.Nat.{le_of_suc-le-suc, not-suc-le-zero, mul-zero, mul-suc, zero-add, add-zero, add_assoc, pow-zero, pow-suc, pow-succ', div-one, div-div-eq-div-mul, div-lt_iff_lt-mul}
 use native.Mathlib.Numerals.{add-one}
 use native.Mathlib.Omega.{arith}
-use lib.ListN.{length, get_or, take, drop, set, replicate, length-append, length-drop, get_or-append}
-use lib.Seq.{sets, drop-cons, drop-drop, take-add, take-suc, length-take-le, get_or-take, get_or-drop, get_or-append-add}
-use lib.Arith.{mod-mul}
+use lib.ListN.{length, get_or, take, drop, set, replicate, length-append, get_or-append}
+use lib.Seq.{sets, drop-cons, take-suc, length-take-le, get_or-take, get_or-drop, get_or-append-add}
+use Rattle.std.specs.Int.{byte_at, bytes_low_first}
 use Rattle.page.specs.Bytes.{number_at, bytes_of, numbers_at, bytes_of_all}
-use Rattle.laws.proofs.SetsLaws.{sets-append, sets-snoc, take-sets}
+use Rattle.laws.proofs.SetsLaws.{part_copied, sets-append, sets-snoc}
 
 -- ---- reading
-
--- a number of v + w bytes is one of v bytes and one of w behind it
-pub number_at_add : (v w : ℕ) (b : List ℕ) (i : ℕ) → number_at (v + w) b i ≡ number_at v b i + 256 ^ v * number_at w b (i + v)
-unfolding number_at
-number_at_add zero w b i = rw (zero-add w, pow-zero, add-zero i) (omega arith)
-number_at_add (suc v) w b i =
-    let e : i + 1 + v ≡ i + suc v = omega arith in
-    rw (suc-add, number_at_add v w b (i + 1), pow-suc, e) (omega arith)
-
--- a number of 2w bytes is read as its lower half and then its upper
-pub read_halves : (w : ℕ) (b : List ℕ) (i lower upper : ℕ) → lower ≡ number_at w b i → upper ≡ number_at w b (i + w) → lower + 256 ^ w * upper ≡ number_at (w + w) b i
-read_halves w b i lower upper e f = rw (e, f, number_at_add w w b i)
 
 -- what is read depends only on the bytes in use
 pub number_at_same : (w : ℕ) (a b : List ℕ) (i j : ℕ) → ((k : ℕ) → k < w → get_or a (i + k) 0 ≡ get_or b (j + k) 0) → number_at w a i ≡ number_at w b j
@@ -69,22 +57,18 @@ unfolding bytes_of
 length_bytes_of zero n = refl
 length_bytes_of (suc w) n = ap suc (length_bytes_of w (n / 256))
 
--- the bytes of a number of v + w bytes are those of its lower part and those of its upper
-pub bytes_of_add : (v w n : ℕ) → bytes_of (v + w) n ≡ bytes_of v n ++ bytes_of w (n / 256 ^ v)
-unfolding bytes_of
-bytes_of_add zero w n = rw (zero-add w, pow-zero, div-one)
-bytes_of_add (suc v) w n = rw (suc-add, bytes_of_add v w (n / 256), div-div-eq-div-mul, pow-succ')
+-- std's bytes of a number are its bytes
+byte-at : (i n : ℕ) → byte_at i n ≡ n / 256 ^ i % 256
+byte-at zero n = rw (pow-zero, div-one)
+byte-at (suc i) n = refl
 
--- the bytes see only the part of a number that fits them
-pub bytes_of_mod : (w n : ℕ) → bytes_of w (n % 256 ^ w) ≡ bytes_of w n
+low_first : (i w n : ℕ) → bytes_low_first i w n ≡ bytes_of w (n / 256 ^ i)
 unfolding bytes_of
-bytes_of_mod zero n = refl
-bytes_of_mod (suc w) n =
-    let x = n / 256 % 256 ^ w in
-    let split : n % 256 ^ suc w ≡ x * 256 + n % 256 = rw pow-suc (mod-mul n (pow_positive w) (omega arith)) in
-    let low : n % 256 ^ suc w % 256 ≡ n % 256 = rw split (omega arith) in
-    let high : n % 256 ^ suc w / 256 ≡ x = rw split (omega arith) in
-    ap₂ (λ (x : ℕ) (xs : List ℕ). x ∷ xs) low (ap (bytes_of w) high ∙ bytes_of_mod w (n / 256))
+low_first i zero n = refl
+low_first i (suc w) n = rw (byte-at i n, low_first (suc i) w n, div-div-eq-div-mul, pow-suc)
+
+pub low_bytes : (w n : ℕ) → bytes_low_first 0 w n ≡ bytes_of w n
+low_bytes w n = low_first 0 w n ∙ rw (pow-zero, div-one)
 
 pub bytes_of_zero : (w : ℕ) → bytes_of w 0 ≡ replicate w 0
 unfolding bytes_of
@@ -157,23 +141,6 @@ unfolding bytes_of_all
 length-bytes_of_all w [] = rw mul-zero
 length-bytes_of_all w (n ∷ ns) = omega (arith, length-append (bytes_of w n) (bytes_of_all w ns), length_bytes_of w n, length-bytes_of_all w ns, mul-suc w (length ns))
 
--- the bytes of numbers that were read are those that they were read from
-pub bytes_of_all-numbers_at : (w : ℕ) (b : List ℕ) (i n : ℕ) → ((k : ℕ) → get_or b k 0 < 256) → i + w * n ≤ length b → bytes_of_all w (numbers_at w b i n) ≡ take (w * n) (drop i b)
-unfolding numbers_at bytes_of_all
-bytes_of_all-numbers_at w b i zero bytes h = rw mul-zero
-bytes_of_all-numbers_at w b i (suc n) bytes h =
-    let all : w * suc n ≡ w + w * n = omega (arith, mul-suc w n) in
-    rw (bytes_of_number_at w b i bytes (omega (arith, mul-suc w n)), bytes_of_all-numbers_at w b (i + w) n bytes (omega (arith, mul-suc w n)), all, take-add w (w * n) (drop i b), drop-drop w i b)
-
--- also by way of a table
-pub words_copied : (w : ℕ) (b table read : List ℕ) (i n : ℕ) → ((k : ℕ) → get_or b k 0 < 256) → i + w * n ≤ length b → n ≤ length table
-    → read ≡ sets table 0 (numbers_at w b i n) → bytes_of_all w (take n read) ≡ take (w * n) (drop i b)
-words_copied w b table read i n bytes h fits e =
-    let ns = numbers_at w b i n in
-    let long : length ns ≡ n = length-numbers_at w b i n in
-    let first : take n (sets table 0 ns) ≡ ns = rw long at (take-sets table ns (omega arith)) in
-    rw (e, first) (bytes_of_all-numbers_at w b i n bytes h)
-
 pub bytes_of_all-append : (w : ℕ) (ms ns : List ℕ) → bytes_of_all w (ms ++ ns) ≡ bytes_of_all w ms ++ bytes_of_all w ns
 unfolding bytes_of_all
 bytes_of_all-append w [] ns = refl
@@ -196,24 +163,26 @@ numbers_at-bytes_of_all w (n ∷ ns) rest fit =
 
 -- ---- numbers written one after another
 
--- a number of 2w bytes is written as its lower half and then its upper
-pub written_halves : (w n i : ℕ) (l m r : List ℕ) → m ≡ sets l i (bytes_of w (n % 256 ^ w)) → r ≡ sets m (i + w) (bytes_of w (n / 256 ^ w)) → r ≡ sets l i (bytes_of (w + w) n)
-written_halves w n i l m r lower upper =
-    rw (bytes_of_add w w n, sets-append l i (bytes_of w n), length_bytes_of w n, ← bytes_of_mod w n, ← lower) upper
-
 -- a table that holds the first i numbers, with one more stored behind them
-pub numbers_more : (w : ℕ) (l m b : List ℕ) (at to i x : ℕ) → m ≡ sets l to (numbers_at w b at i) → x ≡ number_at w b (at + w * i)
-    → set m (to + i) x ≡ sets l to (numbers_at w b at (i + 1))
-numbers_more w l m b at to i x e f =
-    rw (add-one, numbers_at-snoc w b at i, sets-snoc l to (numbers_at w b at i) (number_at w b (at + w * i)) i (length-numbers_at w b at i), ← e, f)
+pub numbers_more : (w : ℕ) (l m b : List ℕ) (at i x : ℕ) → m ≡ sets l 0 (numbers_at w b at i) → x ≡ number_at w b (at + w * i)
+    → set m i x ≡ sets l 0 (numbers_at w b at (i + 1))
+numbers_more w l m b at i x e f =
+    rw (add-one, numbers_at-snoc w b at i, sets-snoc l 0 (numbers_at w b at i) (number_at w b (at + w * i)) i (length-numbers_at w b at i), zero-add, ← e, f)
 
 -- bytes that hold the first i numbers of a table, with one more written behind them
-pub bytes_more : (w : ℕ) (l m r table : List ℕ) (from at i : ℕ) → from + i < length table → m ≡ sets l at (bytes_of_all w (take i (drop from table)))
-    → r ≡ sets m (at + w * i) (bytes_of w (get_or table (from + i) 0)) → r ≡ sets l at (bytes_of_all w (take (i + 1) (drop from table)))
+pub bytes_more : (w : ℕ) (l m r table : List ℕ) (at i : ℕ) → i < length table → m ≡ sets l at (bytes_of_all w (take i table))
+    → r ≡ sets m (at + w * i) (bytes_of w (get_or table i 0)) → r ≡ sets l at (bytes_of_all w (take (i + 1) table))
 unfolding bytes_of_all
-bytes_more w l m r table from at i h e f =
-    let first = take i (drop from table) in
-    let inside : i < length (drop from table) = omega (arith, length-drop from table) in
-    let more : take (i + 1) (drop from table) ≡ first ++ (get_or table (from + i) 0 ∷ []) = rw (add-one, take-suc (drop from table) i 0 inside, get_or-drop) in
-    let long : length (bytes_of_all w first) ≡ w * i = rw (length-bytes_of_all, length-take-le i (drop from table) (omega (arith, length-drop from table))) in
+bytes_more w l m r table at i h e f =
+    let first = take i table in
+    let more : take (i + 1) table ≡ first ++ (get_or table i 0 ∷ []) = rw (add-one, take-suc table i 0 h) in
+    let long : length (bytes_of_all w first) ≡ w * i = rw (length-bytes_of_all, length-take-le i table (omega arith)) in
     rw (more, bytes_of_all-append w first, append-nil, sets-append l at (bytes_of_all w first), long, ← e) f
+
+-- the first 8 i bytes of a, with the next eight carried over as one number
+pub word_copied : (l m r a : List ℕ) (at i x : ℕ) → ((k : ℕ) → get_or a k 0 < 256) → 8 * i + 8 ≤ length a → m ≡ sets l at (take (8 * i) a)
+    → x ≡ number_at 8 a (8 * i) → r ≡ sets m (at + 8 * i) (bytes_of 8 x) → r ≡ sets l at (take (8 * (i + 1)) a)
+word_copied l m r a at i x bytes h e f g =
+    let all : 8 * i + 8 ≡ 8 * (i + 1) = omega arith in
+    let word : bytes_of 8 x ≡ take 8 (drop (8 * i) a) = rw f (bytes_of_number_at 8 a (8 * i) bytes h) in
+    rw (g, word, part_copied l m a at (8 * i) 8 (omega arith) e, all)

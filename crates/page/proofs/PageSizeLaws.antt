@@ -2,8 +2,7 @@
 use Prim.Native.Nat.{ℕ, ◌+◌, ◌*◌, ◌-◌, ◌/◌, ◌≤◌}
 use mathlib.Core.Path.{◌≡◌, refl}
 use native.Mathlib.Omega.{arith}
-use Rattle.page.specs.PageSize.{capacity, IsPageSize, standard_page_size, page_bytes, standard}
-use Rattle.page.specs.declared.size.PageSize.{PageSize}
+use Rattle.page.specs.PageSize.{capacity, IsPageSize, standard_page_size, page_size_of}
 
 -- a page has 16 bytes or more
 pub page_least : {s : ℕ} → IsPageSize s → 16 ≤ s
@@ -20,19 +19,15 @@ pub page_words : {s : ℕ} → IsPageSize s → 4 * (s / 4) ≡ s
 page_words size = omega (arith, size.multiple)
 
 -- document 01's page size is one
-pub page-size : IsPageSize standard_page_size
+pub standard_size : IsPageSize standard_page_size
 unfolding capacity
-page-size = record { multiple = refl; two_entries = omega arith; limit = omega arith }
+standard_size = record { multiple = refl; two_entries = omega arith; limit = omega arith }
 
 -- each value of the code's type is one, and each page size is a value of it
-pub page-bytes : (z : PageSize) → IsPageSize (page_bytes z)
-unfolding capacity page_bytes
-page-bytes z = record { multiple = omega arith; two_entries = omega arith; limit = omega arith }
+pub is_size : (words : ℕ) → IsPageSize (page_size_of words)
+unfolding capacity page_size_of
+is_size words = record { multiple = omega arith; two_entries = omega arith; limit = omega arith }
 
-pub every_size : (s : ℕ) → IsPageSize s → page_bytes (record { 0 = (s - 16) / 4 }) ≡ s
-unfolding page_bytes
+pub every_size : (s : ℕ) → IsPageSize s → page_size_of ((s - 16) / 4) ≡ s
+unfolding page_size_of
 every_size s size = omega (arith, page_least size, size.multiple, size.limit)
-
-pub standard-bytes : page_bytes standard ≡ standard_page_size
-unfolding page_bytes
-standard-bytes = refl

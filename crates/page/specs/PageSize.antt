@@ -1,6 +1,5 @@
 -- The page size is a parameter s of all definitions. A list page holds `capacity s` numbers.
 use Rattle.std.specs.Prelude.{ℕ, ◌+◌, ◌*◌, ◌-◌, ◌/◌, ◌%◌, ◌≤◌, min, ◌≡◌}
-use Rattle.page.specs.declared.size.PageSize.{PageSize}
 
 -- how many numbers fit a list page: its header has 6 bytes, a number 4
 unfoldable pub capacity : ℕ → ℕ
@@ -20,12 +19,6 @@ pub record IsPageSize (s : ℕ) : Type 0 where
 abbrev pub standard_page_size : ℕ
 standard_page_size = 4096
 
--- ---- the code's page sizes
-
--- a page of 16 + 4 n bytes, up to the limit
-unfoldable pub page_bytes : PageSize → ℕ
-page_bytes z = 16 + 4 * min z.0 16380
-
--- document 01's
-abbrev pub standard : PageSize
-standard = record { 0 = (standard_page_size - 16) / 4 }
+-- a page of 16 bytes and so many words of four bytes more, up to the limit. So each is a page size, and every page size is one
+unfoldable pub page_size_of : ℕ → ℕ
+page_size_of words = 16 + 4 * min words 16380

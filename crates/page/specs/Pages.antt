@@ -1,6 +1,11 @@
 -- A store: its bytes, in pages of s bytes each.
 use Rattle.std.specs.Prelude.{ℕ, ◌+◌, ◌*◌, ◌-◌, ◌/◌, ◌^◌, min, List, [], ◌∷◌, ◌++◌, length, take, drop, replicate}
 
+-- a store as the code has it: the size of its pages, and its bytes
+pub record Stored : Type 0 where
+  pub page_size : ℕ
+  pub bytes : List ℕ
+
 -- the whole pages of a store, at most 2^32 - 1
 unfoldable pub page_count : ℕ → List ℕ → ℕ
 page_count s store = min (length store / s) (2 ^ 32 - 1)

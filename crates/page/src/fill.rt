@@ -1,36 +1,18 @@
 // Bytes made zero.
-//
-// These are leaves for sibling crates: each asks that the bytes lie within the slice.
-ghost use Rattle.std.specs.Prelude.{◌≡◌, ◌-◌, ◌/◌, ◌≤◌, length, replicate};
-ghost use Rattle.std.proofs.lemmas.List.Edits.{sets};
+ghost use Rattle.std.specs.Prelude.{◌≡◌, ◌/◌, length, replicate};
 
-use crate::little_endian::write_u64;
+use crate::little_endian::LittleEndian;
 
-// Makes the bytes from `from` up to `to` zero.
-pub fn clear(b: &mut [u8], from: usize, to: usize)
-    requires { to ≤ length b.old }
-    ensures { b.new ≡ sets b.old from (replicate (to - from) 0) }
+// Makes all bytes zero: eight bytes a step, and singly what is then left. Returns the count of steps.
+pub fn clear_steps(b: &mut [u8]) -> usize
+    ensures { (result ≡ length b.old / 8) × (b.new ≡ replicate (length b.old) 0) }
 {
-    let mut i = from;
-    while i < to {
-        b[i] = 0;
-        i += 1;
-    }
-}
-
-// Clears as `clear` does: eight bytes a step, and singly what is then left. Returns the count of steps.
-pub fn clear_steps(b: &mut [u8], from: usize, to: usize) -> usize
-    requires { to ≤ length b.old }
-    ensures { (result ≡ (to - from) / 8) × (b.new ≡ sets b.old from (replicate (to - from) 0)) }
-{
-    if to < from {
-        return 0;
-    }
     let mut steps = 0;
-    while to - from - 8 * steps >= 8 {
-        write_u64(b, from + 8 * steps, 0);
+    for i in 0..b.len() / 8 {
+        0u64.write_at(b, 8 * i);
         steps += 1;
     }
-    clear(b, from + 8 * steps, to);
+    let done = 8 * steps;
+    b[done..].fill(0);
     steps
 }

@@ -9,6 +9,7 @@ use refusal::Refusal;
 pub const MAX_BUMP: u32 = 4294950913;
 
 // The store's new length in pages, or refusal 7: the least multiple of 8,192 that leaves room for 8,191 pages from `page` on.
+#[tactic(auto, unfolding(crate::specs::Growth::grow, crate::specs::Growth::grown, crate::specs::Growth::rounded_up))]
 pub fn grow(page: PageNumber) -> Result<PageNumber, Refusal>
     ensures { grown_outcome result ≡ grow page.0 }
 {

@@ -1,82 +1,99 @@
-// Little-endian numbers of 16, 32 and 64 bits in byte slices.
+// Little-endian numbers in byte slices.
 //
 // These are leaves for sibling crates: each asks that its bytes lie within the slice.
-ghost use Rattle.std.specs.Prelude.{◌≡◌, ◌+◌, ◌*◌, ◌<◌, ◌≤◌, length, take, drop};
+ghost use Rattle.std.specs.Prelude.{◌≡◌, ℕ, ◌+◌, ◌*◌, ◌≤◌, length};
 ghost use Rattle.std.proofs.lemmas.List.Edits.{sets};
 ghost use Rattle.page.specs.Bytes.{number_at, bytes_of, numbers_at, bytes_of_all};
 
-// A byte as a wider number.
-fn wide(b: u8) -> u16
-    ensures { (result ≡ b) × (result < 256) }
-{
-    b as u16
+use crate::copy::copy;
+
+// A number that takes `width` bytes, the lowest first.
+pub trait LittleEndian {
+    ghost width: { ℕ };
+
+    ghost value: { Self → ℕ };
+
+    // The number in the bytes from place `at` on.
+    fn read_at(b: &[u8], at: usize) -> Self
+        requires { at + width ≤ length b.now }
+        ensures { value result ≡ number_at width b.now at };
+
+    // Puts the number's bytes at place `at`.
+    fn write_at(self, b: &mut [u8], at: usize)
+        requires { at + width ≤ length b.old }
+        ensures { b.new ≡ sets b.old at (bytes_of width (value self)) };
 }
 
-pub fn read_u16(b: &[u8], at: usize) -> u16
-    requires { at + 2 ≤ length b.now }
-    ensures { result ≡ number_at 2 b.now at }
-{
-    wide(b[at]) + 256 * wide(b[at + 1])
-}
+impl LittleEndian for u16 {
+    ghost width = { 2 };
 
-pub fn read_u32(b: &[u8], at: usize) -> u32
-    requires { at + 4 ≤ length b.now }
-    ensures { result ≡ number_at 4 b.now at }
-{
-    read_u16(b, at) as u32 + 65536 * (read_u16(b, at + 2) as u32)
-}
+    ghost value = { λ n. n };
 
-pub fn read_u64(b: &[u8], at: usize) -> u64
-    requires { at + 8 ≤ length b.now }
-    ensures { result ≡ number_at 8 b.now at }
-{
-    read_u32(b, at) as u64 + 4294967296 * (read_u32(b, at + 4) as u64)
-}
+    #[tactic(auto, unfolding(crate::specs::Bytes::number_at))]
+    fn read_at(b: &[u8], at: usize) -> u16 {
+        u16::from_le_bytes([b[at], b[at + 1]])
+    }
 
-pub fn write_u16(b: &mut [u8], at: usize, x: u16)
-    requires { at + 2 ≤ length b.old }
-    ensures { b.new ≡ sets b.old at (bytes_of 2 x) }
-{
-    b[at] = (x % 256) as u8;
-    b[at + 1] = (x / 256 % 256) as u8;
-}
-
-pub fn write_u32(b: &mut [u8], at: usize, x: u32)
-    requires { at + 4 ≤ length b.old }
-    ensures { b.new ≡ sets b.old at (bytes_of 4 x) }
-{
-    write_u16(b, at, (x % 65536) as u16);
-    write_u16(b, at + 2, (x / 65536) as u16);
-}
-
-pub fn write_u64(b: &mut [u8], at: usize, x: u64)
-    requires { at + 8 ≤ length b.old }
-    ensures { b.new ≡ sets b.old at (bytes_of 8 x) }
-{
-    write_u32(b, at, (x % 4294967296) as u32);
-    write_u32(b, at + 4, (x / 4294967296) as u32);
-}
-
-// Reads n numbers of 32 bits from the bytes at `at` into the table, from place `to` on.
-pub fn read_numbers(b: &[u8], at: usize, n: usize, table: &mut [u32], to: usize)
-    requires { (at + 4 * n ≤ length b.now) × (to + n ≤ length table.old) }
-    ensures { table.new ≡ sets table.old to (numbers_at 4 b.now at n) }
-{
-    let mut i = 0;
-    while i < n {
-        table[to + i] = read_u32(b, at + 4 * i);
-        i += 1;
+    fn write_at(self, b: &mut [u8], at: usize) {
+        copy(&u16::to_le_bytes(self), b, at);
     }
 }
 
-// Writes n numbers of the table, from place `from` on, to the bytes at `at`, 32 bits each.
-pub fn write_numbers(table: &[u32], from: usize, n: usize, b: &mut [u8], at: usize)
-    requires { (from + n ≤ length table.now) × (at + 4 * n ≤ length b.old) }
-    ensures { b.new ≡ sets b.old at (bytes_of_all 4 (take n (drop from table.now))) }
+impl LittleEndian for u32 {
+    ghost width = { 4 };
+
+    ghost value = { λ n. n };
+
+    #[tactic(auto, unfolding(crate::specs::Bytes::number_at))]
+    fn read_at(b: &[u8], at: usize) -> u32 {
+        u32::from_le_bytes([b[at], b[at + 1], b[at + 2], b[at + 3]])
+    }
+
+    fn write_at(self, b: &mut [u8], at: usize) {
+        copy(&u32::to_le_bytes(self), b, at);
+    }
+}
+
+impl LittleEndian for u64 {
+    ghost width = { 8 };
+
+    ghost value = { λ n. n };
+
+    #[tactic(auto, unfolding(crate::specs::Bytes::number_at))]
+    fn read_at(b: &[u8], at: usize) -> u64 {
+        u64::from_le_bytes([
+            b[at],
+            b[at + 1],
+            b[at + 2],
+            b[at + 3],
+            b[at + 4],
+            b[at + 5],
+            b[at + 6],
+            b[at + 7],
+        ])
+    }
+
+    fn write_at(self, b: &mut [u8], at: usize) {
+        copy(&u64::to_le_bytes(self), b, at);
+    }
+}
+
+// Fills the table with the numbers of 32 bits in the bytes from place `at` on.
+pub fn read_numbers(b: &[u8], at: usize, table: &mut [u32])
+    requires { at + 4 * length table.old ≤ length b.now }
+    ensures { table.new ≡ numbers_at 4 b.now at (length table.old) }
 {
-    let mut i = 0;
-    while i < n {
-        write_u32(b, at + 4 * i, table[from + i]);
-        i += 1;
+    for i in 0..table.len() {
+        table[i] = u32::read_at(b, at + 4 * i);
+    }
+}
+
+// Writes the numbers of the table to the bytes from place `at` on, 32 bits each.
+pub fn write_numbers(table: &[u32], b: &mut [u8], at: usize)
+    requires { at + 4 * length table.now ≤ length b.old }
+    ensures { b.new ≡ sets b.old at (bytes_of_all 4 table.now) }
+{
+    for i in 0..table.len() {
+        table[i].write_at(b, at + 4 * i);
     }
 }

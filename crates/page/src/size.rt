@@ -1,19 +1,48 @@
 // How large a page is.
-ghost use Rattle.std.specs.Prelude.{◌≡◌};
-ghost use Rattle.page.specs.PageSize.{page_bytes};
+ghost use Rattle.std.specs.Prelude.{◌≡◌, ℕ};
+ghost use Rattle.page.specs.PageSize.{IsPageSize, page_size_of, standard_page_size};
 
-// The size of a page: 16 + 4 * n bytes, and 65,536 from n = 16,380 on. So each value is a page size, and every page size is one.
+use std::marker::Model;
+
+// The size of a page. In contracts it is the number of its bytes, which is a page size: it is made by `of_words` alone.
 #[derive(Clone, Copy)]
-pub struct PageSize(pub usize);
+pub struct PageSize {
+    bytes: usize,
+}
 
-// Document 01's: 4,096 bytes.
-pub const PAGE_SIZE: PageSize = PageSize(1020);
+impl Model for PageSize {
+    ghost Value = { ℕ };
+
+    ghost view = { λ s. s.bytes };
+
+    ghost invariant = { λ s. IsPageSize s.bytes };
+
+    ghost inverse = { λ n. record { bytes = n } };
+}
 
 impl PageSize {
-    pub fn bytes(self) -> usize
-        ensures { result ≡ page_bytes self }
+    // Document 01's: 4,096 bytes.
+    #[tactic(auto, using(crate::proofs::PageSizeLaws::standard_size))]
+    pub fn standard() -> PageSize
+        ensures { result ≡ standard_page_size }
     {
-        let n = self.0;
-        if n < 16380 { 16 + 4 * n } else { 65536 }
+        PageSize { bytes: 4096 }
+    }
+
+    // A page of 16 bytes and so many words of four bytes more, and of 65,536 bytes from 16,380 words on.
+    #[tactic(auto, unfolding(crate::specs::PageSize::page_size_of, crate::specs::PageSize::capacity))]
+    pub fn of_words(words: usize) -> PageSize
+        ensures { result ≡ page_size_of words }
+    {
+        PageSize {
+            bytes: 16 + 4 * words.min(16380),
+        }
+    }
+
+    pub fn bytes(self) -> usize
+        ensures bytes { result ≡ self }
+        ensures size { IsPageSize result }
+    {
+        self.bytes
     }
 }

@@ -1,30 +1,62 @@
-// The pages of a store, which is a lent slice of bytes. Page p starts at byte `page_size` times p.
+// The pages of a store.
 ghost use Rattle.std.specs.Prelude.{◌≡◌, ◌<◌};
 ghost use Rattle.page.specs.PageSize.{IsPageSize};
-ghost use Rattle.page.specs.Pages.{page_count, page_at};
+ghost use Rattle.page.specs.Pages.{page_count, page_at, Stored};
 
-// The most pages that a store counts as: 2^32 - 1.
-const MAX_PAGE_COUNT: u32 = 4294967295;
+use crate::size::PageSize;
+use std::marker::Model;
 
-// How many whole pages the store has, and at most 2^32 - 1: a longer store counts as that.
-pub fn page_count(page_size: usize, store: &[u8]) -> u32
-    requires { IsPageSize page_size }
-    ensures { result ≡ page_count page_size store.now }
-{
-    let n = store.len() / page_size;
-    if n < MAX_PAGE_COUNT as usize {
-        n as u32
-    } else {
-        MAX_PAGE_COUNT
-    }
+// A store: its bytes, which are lent, in pages of one size. Page p starts at byte `page_size` times p.
+#[derive(Drop)]
+pub struct Store<'a> {
+    page_size: usize,
+    bytes: &'a [u8],
+    // How many whole pages it has, and at most 2^32 - 1: a longer store counts as that.
+    count: u32,
 }
 
-// The bytes of a page that the store has.
-pub fn page_at(page_size: usize, store: &[u8], page: u32) -> &[u8]
-    requires { IsPageSize page_size × (page < page_count page_size store.now) }
-    ensures { result.now ≡ page_at page_size store.now page }
-{
-    let start = page_size * (page as usize);
-    let end = start + page_size;
-    &store[start..end]
+impl<'a> Model for Store<'a> {
+    ghost Value = { Stored };
+
+    ghost view = { λ s. record { page_size = s.page_size; bytes = s.bytes.now } };
+
+    ghost invariant = { λ s. IsPageSize s.page_size × (s.count ≡ page_count s.page_size s.bytes.now) };
+}
+
+impl<'a> Store<'a> {
+    pub fn new(page_size: PageSize, bytes: &'a [u8]) -> Store<'a>
+        ensures { result ≡ record { page_size = page_size; bytes = bytes.entry.now } }
+    {
+        let page_size = page_size.bytes();
+        let count = (bytes.len() / page_size).min(u32::MAX as usize) as u32;
+        Store {
+            page_size,
+            bytes,
+            count,
+        }
+    }
+
+    // How many bytes each of its pages has.
+    pub fn page_size(&self) -> usize
+        ensures size { result ≡ self.now.page_size }
+        ensures is_size { IsPageSize result }
+    {
+        self.page_size
+    }
+
+    // How many whole pages it has, and at most 2^32 - 1: a longer store counts as that.
+    pub fn page_count(&self) -> u32
+        ensures { result ≡ page_count self.now.page_size self.now.bytes }
+    {
+        self.count
+    }
+
+    // The bytes of a page that the store has.
+    pub fn page(&self, page: u32) -> &'a [u8]
+        requires { page < page_count self.now.page_size self.now.bytes }
+        ensures { result.now ≡ page_at self.now.page_size self.now.bytes page }
+    {
+        let start = self.page_size * page as usize;
+        &self.bytes[start..start + self.page_size]
+    }
 }

@@ -8,7 +8,7 @@ ghost use Rattle.std.proofs.lemmas.List.Edits.{sets};
 ghost use Rattle.refusal.specs.Refusals.{number, values};
 
 // One case for each row of document 01's table, in its order, with the value that the row returns beside the number.
-#[derive(Clone, Copy)]
+#[derive(Clone, Copy, Debug, PartialEq, Eq)]
 pub enum Refusal {
     // 1: a bump of 0 or above its limit, a P and L outside the shape, or tables shorter than them.
     State,

@@ -1,41 +1,32 @@
-use Rattle.std.proofs.Common.{◌≡◌, ◌-◌, length, ◌+◌, ◌*◌}
+use Rattle.std.proofs.Common.{◌≡◌, ℕ, ◌+◌, ◌*◌, ◌-◌, length, replicate, take, drop}
 use Rattle.std.proofs.lemmas.List.Edits.{sets}
 use Rattle.page.proofs.fill.clear_steps.Goals as goal
-use mathlib.Core.Path.{refl, ap, ◌∙◌}
+use mathlib.Core.Path.{◌∙◌, ap}
 use native.Mathlib.Omega.{arith}
-use lib.Seq.{length-sets}
-use Rattle.laws.proofs.SetsLaws.{zeros_joined}
+use lib.ListN.{length-drop, length-replicate}
+use lib.Seq.{length-take-le}
+use Rattle.laws.proofs.SetsLaws.{part-written, sets_whole, zeros_joined}
 use Rattle.page.proofs.BytesLaws.{bytes_of_zero}
 
-pub loop-steps-init : goal.loop-steps-init
-loop-steps-init c = (omega arith, refl, refl)
-
-pub overflow_mul-steps : goal.overflow_mul-steps
-overflow_mul-steps c = omega arith
-
-pub overflow_sub-to-in-loop-steps : goal.overflow_sub-to-in-loop-steps
-overflow_sub-to-in-loop-steps c = omega arith
-
-pub loop-steps-smaller : goal.loop-steps-smaller
-loop-steps-smaller c = omega arith
-
-pub loop-steps-preserved : goal.loop-steps-preserved
-loop-steps-preserved c =
-    let x = c.args in
-    let e = c.write_u64.ensures ∙ ap (λ zs. sets c.loop-steps.b (x.from + 8 * c.loop-steps.steps) zs) (bytes_of_zero 8) in
-    let more : 8 * c.loop-steps.steps + 8 ≡ 8 * (c.loop-steps.steps + 1) = omega arith in
-    (omega arith, ap length e ∙ simp length-sets c.loop-steps.invariant.1, e ∙ rw more at (zeros_joined x.b.now c.loop-steps.b x.from (8 * c.loop-steps.steps) 8 c.loop-steps.invariant.2))
-
-pub overflow_mul-steps-2 : goal.overflow_mul-steps-2
-overflow_mul-steps-2 c = omega arith
-
-pub overflow_add-from-2 : goal.overflow_add-from-2
-overflow_add-from-2 c = omega arith
+pub loop-i-preserved : goal.loop-i-preserved
+loop-i-preserved c = record {
+  counted = omega arith;
+  cleared =
+      let more : 8 * c.loop-i.i + 8 ≡ 8 * (c.loop-i.i + 1) = omega arith in
+      c.write_at.ensures ∙ ap (sets c.loop-i.b (8 * c.loop-i.i)) (bytes_of_zero 8) ∙ rw more at (zeros_joined c.args.b.now c.loop-i.b (8 * c.loop-i.i) 8 c.loop-i.invariant.cleared);
+}
 
 pub returns : goal.returns
 returns c =
-    let x = c.args in
-    let done = 8 * c.loop-steps.steps in
-    let left = x.to - (x.from + done) in
-    let all : done + left ≡ x.to - x.from = omega arith in
-    (omega arith, c.clear.ensures ∙ rw all at (zeros_joined x.b.now c.loop-steps.b x.from done left c.loop-steps.invariant.2))
+    let n = length c.args.b.now in
+    let done = 8 * c.loop-i.steps in
+    let left = length c.loop-i.b - done in
+    let long : length (take left (drop done c.loop-i.b)) ≡ left = length-take-le left (drop done c.loop-i.b) (omega (arith, length-drop done c.loop-i.b)) in
+    let zeros : c.fill.new.self ≡ replicate left 0 = c.fill.ensures.after (λ y e. e) ∙ ap (λ (k : ℕ). replicate {A = ℕ} k 0) long in
+    let all : done + left ≡ n = omega arith in
+    let first = rw (← c.loop-i.invariant.counted) at c.loop-i.invariant.cleared in (
+      omega arith,
+      rw zeros (part-written c.loop-i.b done left (replicate left 0) (length-replicate {A = ℕ} left 0) (omega arith))
+          ∙ rw all at (zeros_joined c.args.b.now c.loop-i.b done left first)
+          ∙ sets_whole c.args.b.now (replicate n 0) (length-replicate {A = ℕ} n 0),
+    )
