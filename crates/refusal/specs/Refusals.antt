@@ -1,5 +1,5 @@
 -- Document 01's table 'What stops a call': the number of each refusal, and the values returned with it.
-use Rattle.std.specs.Prelude.{ℕ, List, [], ◌∷◌, Result, Ok, Err}
+use Rattle.std.specs.Prelude.{ℕ, List, [], ◌∷◌, Option, Some, None, Result, Ok, Err}
 use Rattle.refusal.specs.Outcome.{Outcome, answer, refused}
 use Rattle.refusal.specs.declared.Refusal.{Refusal}
 use Rattle.refusal.specs.declared.Refusal.TheVariants.{State, ListPage, Count, Entry, Chain, Tables, Limit, Freed, Buffer, Size, Index, Cell, Room, Unknown, Missing, ValuePage, Numbers, Bytes}
@@ -45,6 +45,11 @@ values (Missing index) = index ∷ []
 values (ValuePage index) = index ∷ []
 values Numbers = []
 values Bytes = []
+
+-- a value returned beside the number, or none
+abbrev pub told_beside : Option ℕ → List ℕ
+told_beside None = []
+told_beside (Some value) = value ∷ []
 
 -- the outcome that a refusal is
 abbrev pub refusal : {A : Type 0} → Refusal → Outcome A

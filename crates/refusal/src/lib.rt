@@ -5,7 +5,7 @@
 
 ghost use Rattle.std.specs.Prelude.{◌≡◌};
 ghost use Rattle.std.proofs.lemmas.List.Edits.{sets};
-ghost use Rattle.refusal.specs.Refusals.{number, values};
+ghost use Rattle.refusal.specs.Refusals.{number, values, told_beside};
 
 // One case for each row of document 01's table, in its order, with the value that the row returns beside the number.
 #[derive(Clone, Copy, Debug, PartialEq, Eq)]
@@ -48,60 +48,59 @@ pub enum Refusal {
     Bytes,
 }
 
-impl Refusal {
-    // The refusal's number in document 01's table; the value that its row returns, if any, goes to the first place of `out`.
-    pub fn report(self, out: &mut [u64; 8]) -> u32
-        ensures number { result ≡ number self }
-        ensures values { out.new ≡ sets out.old 0 (values self) }
-    {
-        match self {
+// The refusal's number in document 01's table.
+impl From<Refusal> for u32 {
+    ghost from_gives = { λ r n. n ≡ number r };
+
+    fn from(refusal: Refusal) -> u32 {
+        match refusal {
             Refusal::State => 1,
-            Refusal::ListPage(page) => {
-                out[0] = page as u64;
-                2
-            }
-            Refusal::Count(page) => {
-                out[0] = page as u64;
-                3
-            }
-            Refusal::Entry(page) => {
-                out[0] = page as u64;
-                4
-            }
+            Refusal::ListPage(_) => 2,
+            Refusal::Count(_) => 3,
+            Refusal::Entry(_) => 4,
             Refusal::Chain => 5,
             Refusal::Tables => 6,
             Refusal::Limit => 7,
-            Refusal::Freed(place) => {
-                out[0] = place as u64;
-                8
-            }
+            Refusal::Freed(_) => 8,
             Refusal::Buffer => 9,
             Refusal::Size => 10,
             Refusal::Index => 11,
             Refusal::Cell => 12,
             Refusal::Room => 13,
-            Refusal::Unknown(index) => {
-                out[0] = index as u64;
-                14
-            }
-            Refusal::Missing(index) => {
-                out[0] = index as u64;
-                15
-            }
-            Refusal::ValuePage(index) => {
-                out[0] = index as u64;
-                16
-            }
+            Refusal::Unknown(_) => 14,
+            Refusal::Missing(_) => 15,
+            Refusal::ValuePage(_) => 16,
             Refusal::Numbers => 17,
             Refusal::Bytes => 18,
         }
     }
+}
 
-    // The number alone, for a call that returns no values.
-    pub fn number(self) -> u32
-        ensures { result ≡ number self }
+impl Refusal {
+    // The value that its row returns beside the number, if any.
+    fn value(self) -> Option<u64>
+        ensures { told_beside result ≡ values self }
     {
-        let mut values: [u64; 8] = [0; 8];
-        self.report(&mut values)
+        match self {
+            Refusal::ListPage(page) | Refusal::Count(page) | Refusal::Entry(page) => {
+                Some(page as u64)
+            }
+            Refusal::Freed(place) => Some(place as u64),
+            Refusal::Unknown(index) | Refusal::Missing(index) | Refusal::ValuePage(index) => {
+                Some(index as u64)
+            }
+            _ => None,
+        }
+    }
+
+    // The number; the value, if any, goes to the first place of `out`.
+    pub fn report(self, out: &mut [u64; 8]) -> u32
+        ensures number { result ≡ number self }
+        ensures values { out.new ≡ sets out.old 0 (values self) }
+    {
+        if let Some(value) = self.value() {
+            out[0] = value;
+        }
+        u32::from(self)
     }
 }
