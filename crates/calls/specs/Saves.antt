@@ -1,8 +1,6 @@
 -- The open save.
 use Rattle.std.specs.Prelude.{ℕ, ◌≡◌, List, [], ◌∷◌}
 use Rattle.refusal.specs.Effect.{Lent, LentMut, given, before, after, nothing, effect, called, left}
-use Rattle.page.specs.PageSize.{page_bytes}
-use Rattle.page.specs.declared.size.PageSize.{PageSize}
 use Rattle.allocator.specs.OpenSave.{Save, HandedOut, hand_out}
 use Rattle.allocator.specs.declared.save.Save.{Save as SaveStruct}
 use Rattle.finisher.specs.Finish.{FinishAnswer, finish_room, finish_lent, finish_into}
@@ -21,16 +19,16 @@ save_of bump length p l count =
 abbrev pub handed_values : HandedOut → List ℕ
 handed_values h = h.number ∷ h.save.handed ∷ h.save.recorded ∷ []
 
-abbrev pub HandsOut : PageSize → ℕ → ℕ → ℕ → ℕ → ℕ → Lent → Lent → LentMut → ℕ → Type 0
-HandsOut z bump length p l count pages entries out r =
-    left r out nothing ≡ called handed_values (before out) (effect (hand_out (page_bytes z) (open_save bump length p l count (given pages) (given entries))) nothing)
+abbrev pub HandsOut : ℕ → ℕ → ℕ → ℕ → ℕ → ℕ → Lent → Lent → LentMut → ℕ → Type 0
+HandsOut s bump length p l count pages entries out r =
+    left r out nothing ≡ called handed_values (before out) (effect (hand_out s (open_save bump length p l count (given pages) (given entries))) nothing)
 
 -- head, bump, recorded length, P, L, pages written
 abbrev pub finish_values : FinishAnswer → List ℕ
 finish_values a = a.head ∷ a.bump ∷ a.recorded ∷ a.P ∷ a.L ∷ a.count ∷ []
 
-abbrev pub Finishes : PageSize → ℕ → ℕ → ℕ → ℕ → ℕ → LentMut → LentMut → Lent → LentMut → LentMut → LentMut → ℕ → Type 0
-Finishes z bump length p l count pages entries freed buffer numbers out r =
+abbrev pub Finishes : ℕ → ℕ → ℕ → ℕ → ℕ → ℕ → LentMut → LentMut → Lent → LentMut → LentMut → LentMut → ℕ → Type 0
+Finishes s bump length p l count pages entries freed buffer numbers out r =
     left r out (finish_lent after pages entries buffer numbers)
     ≡ called finish_values (before out)
-    (finish_into (page_bytes z) (open_save bump length p l count (before pages) (before entries)) (given freed) (finish_room before buffer numbers))
+    (finish_into s (open_save bump length p l count (before pages) (before entries)) (given freed) (finish_room before buffer numbers))

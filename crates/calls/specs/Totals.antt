@@ -2,8 +2,6 @@
 use Rattle.std.specs.Prelude.{ℕ, ◌≡◌, List, [], ◌∷◌}
 use Rattle.refusal.specs.Effect.{LentMut, before, nothing, effect, called, left}
 use Rattle.page.specs.Growth.{grow}
-use Rattle.page.specs.PageSize.{page_bytes}
-use Rattle.page.specs.declared.size.PageSize.{PageSize}
 use Rattle.overflow.specs.Totals.{Total, page_total}
 
 -- the new length
@@ -17,5 +15,5 @@ Grows page out r = left r out nothing ≡ called grow_values (before out) (effec
 abbrev pub total_values : Total → List ℕ
 total_values t = t.total ∷ t.cell ∷ t.spare ∷ []
 
-abbrev pub TellsTotal : PageSize → ℕ → LentMut → ℕ → Type 0
-TellsTotal z size out r = left r out nothing ≡ called total_values (before out) (effect (page_total (page_bytes z) size) nothing)
+abbrev pub TellsTotal : ℕ → ℕ → LentMut → ℕ → Type 0
+TellsTotal s size out r = left r out nothing ≡ called total_values (before out) (effect (page_total s size) nothing)

@@ -7,5 +7,6 @@
 pub mod lists;
 pub mod lookups;
 pub mod saves;
+pub mod told;
 pub mod totals;
 pub mod values;

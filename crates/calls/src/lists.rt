@@ -1,9 +1,21 @@
 // The free list: reading it from a store.
+ghost use Rattle.std.specs.Prelude.{[], ◌∷◌};
 ghost use Rattle.calls.specs.Lists.{ReadsList};
 
-use free_list::read::{ReadList, read};
+use crate::told::{Told, report};
+use free_list::read::{ListCounts, Reading, read};
 use page::number::PageNumber;
 use page::size::PageSize;
+use page::store::Store;
+
+impl Told for ListCounts {
+    ghost values = { λ list. list.pages ∷ list.entries ∷ [] };
+
+    fn tell(self, out: &mut [u64; 8]) {
+        out[0] = self.pages as u64;
+        out[1] = self.entries as u64;
+    }
+}
 
 // out: P, L. Refusals 2, 3 and 4: the page.
 pub fn read_list(
@@ -16,12 +28,6 @@ pub fn read_list(
 ) -> u32
     ensures { ReadsList page_size store head pages entries out result }
 {
-    match read(page_size, store, false, PageNumber(head), pages, entries) {
-        ReadList::Read(list) => {
-            out[0] = list.pages as u64;
-            out[1] = list.entries as u64;
-            0
-        }
-        ReadList::Refused(r) => r.report(out),
-    }
+    let store = Store::new(page_size, store);
+    report(read(&store, Reading::Strict, PageNumber(head), pages, entries), out)
 }

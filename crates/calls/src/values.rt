@@ -1,12 +1,41 @@
 // Values: writing their pages, their cells, reading and deleting.
+ghost use Rattle.std.specs.Prelude.{[], ◌∷◌};
 ghost use Rattle.calls.specs.Values.{WritesPage, EncodesCell, DecodesCell, ReadsValue, DeletesValue};
 
-use overflow::cell::Decoded;
+use crate::told::{Told, report, status};
+use overflow::cell::CellCounts;
 use overflow::chunk::chunk;
-use overflow::delete::{Deleted, delete};
-use overflow::read::{ReadValue, read};
-use overflow::stored::Written;
+use overflow::delete::delete;
+use overflow::read::{ValueCounts, read};
 use page::size::PageSize;
+use page::store::Store;
+
+impl Told for CellCounts {
+    ghost values = { λ c. c.size ∷ c.numbers ∷ [] };
+
+    fn tell(self, out: &mut [u64; 8]) {
+        out[0] = self.size as u64;
+        out[1] = self.numbers as u64;
+    }
+}
+
+impl Told for ValueCounts {
+    ghost values = { λ v. v.size ∷ v.numbers ∷ [] };
+
+    fn tell(self, out: &mut [u64; 8]) {
+        out[0] = self.size as u64;
+        out[1] = self.numbers as u64;
+    }
+}
+
+// How many numbers were found.
+impl Told for usize {
+    ghost values = { λ n. n ∷ [] };
+
+    fn tell(self, out: &mut [u64; 8]) {
+        out[0] = self as u64;
+    }
+}
 
 // Writes page `index` of a value to the start of the page buffer.
 pub fn write_value_page(
@@ -18,10 +47,7 @@ pub fn write_value_page(
 ) -> u32
     ensures { WritesPage page_size value numbers index page result }
 {
-    match chunk(page_size, value, numbers, index as usize, page) {
-        Written::Bytes(_) => 0,
-        Written::Refused(r) => r.number(),
-    }
+    status(chunk(page_size, value, numbers, index as usize, page))
 }
 
 // Writes a cell to the start of the cell buffer: its size, hash and numbers.
@@ -34,24 +60,14 @@ pub fn encode_cell(
 ) -> u32
     ensures { EncodesCell page_size size hash numbers buffer result }
 {
-    match overflow::cell::encode_cell(page_size, size, hash, numbers, buffer) {
-        Written::Bytes(_) => 0,
-        Written::Refused(r) => r.number(),
-    }
+    status(overflow::cell::encode_cell(page_size, size, hash, numbers, buffer))
 }
 
 // out: size, count of numbers.
 pub fn decode_cell(page_size: PageSize, cell: &[u8], hash: &mut [u8; 32], out: &mut [u64; 8]) -> u32
     ensures { DecodesCell page_size cell hash out result }
 {
-    match overflow::cell::decode_cell(page_size, cell, hash) {
-        Decoded::Cell(c) => {
-            out[0] = c.size as u64;
-            out[1] = c.numbers as u64;
-            0
-        }
-        Decoded::Refused(r) => r.report(out),
-    }
+    report(overflow::cell::decode_cell(page_size, cell, hash), out)
 }
 
 // out: size, numbers found. Refusals 14, 15 and 16: the index in the walk.
@@ -65,14 +81,7 @@ pub fn read_value(
 ) -> u32
     ensures { ReadsValue page_size cell store numbers value out result }
 {
-    match read(page_size, cell, store, numbers, value) {
-        ReadValue::Read(v) => {
-            out[0] = v.size as u64;
-            out[1] = v.numbers as u64;
-            0
-        }
-        ReadValue::Refused(r) => r.report(out),
-    }
+    report(read(&Store::new(page_size, store), cell, numbers, value), out)
 }
 
 // out: numbers found. Refusals 14, 15 and 16: the index in the walk.
@@ -85,11 +94,5 @@ pub fn delete_value(
 ) -> u32
     ensures { DeletesValue page_size cell store numbers out result }
 {
-    match delete(page_size, cell, store, numbers) {
-        Deleted::Numbers(n) => {
-            out[0] = n as u64;
-            0
-        }
-        Deleted::Refused(r) => r.report(out),
-    }
+    report(delete(&Store::new(page_size, store), cell, numbers), out)
 }

@@ -28,8 +28,9 @@ zeros_more l m from i h e =
     rw (one, ← replicate-append-replicate {A = ℕ} n 1 0, sets-snoc l from (replicate n 0) 0 n (length-replicate {A = ℕ} n 0), last, ← e)
 
 -- zeros, with k more behind them
-pub zeros_joined : (l m : List ℕ) (i k : ℕ) → m ≡ sets l 0 (replicate i 0) → sets m i (replicate k 0) ≡ sets l 0 (replicate (i + k) 0)
-zeros_joined l m i k e = rw (← replicate-append-replicate {A = ℕ} i k 0, sets-append, length-replicate {A = ℕ} i 0, zero-add, ← e)
+pub zeros_joined : (l m : List ℕ) (from i k : ℕ) → m ≡ sets l from (replicate i 0) → sets m (from + i) (replicate k 0) ≡ sets l from (replicate (i + k) 0)
+zeros_joined l m from i k e =
+    rw (← replicate-append-replicate {A = ℕ} i k 0, sets-append l from (replicate i 0) (replicate k 0), length-replicate {A = ℕ} i 0, ← e)
 
 -- the first i values of a part of another list, with one more stored behind them
 pub copied_more : (l m a : List ℕ) (from to i : ℕ) → from + i < length a → m ≡ sets l to (take i (drop from a)) → set m (to + i) (get_or a (from + i) 0) ≡ sets l to (take (i + 1) (drop from a))
@@ -40,11 +41,11 @@ copied_more l m a from to i h e =
     rw (more, sets-snoc l to first (get_or a (from + i) 0) i (length-take-le i (drop from a) (omega arith)), ← e)
 
 -- a part more
-pub part_copied : (l m a : List ℕ) (to i n : ℕ) → i ≤ length a → m ≡ sets l to (take i a) → sets m (to + i) (take n (drop i a)) ≡ sets l to (take (i + n) a)
-part_copied l m a to i n h e =
-    let first = take i a in
-    let long : length first ≡ i = length-take-le i a h in
-    rw (take-add i n a, sets-append l to first (take n (drop i a)), long, ← e)
+pub part_copied : (l m a : List ℕ) (from to i n : ℕ) → from + i ≤ length a → m ≡ sets l to (take i (drop from a)) → sets m (to + i) (take n (drop (from + i) a)) ≡ sets l to (take (i + n) (drop from a))
+part_copied l m a from to i n h e =
+    let first = take i (drop from a) in
+    let long : length first ≡ i = length-take-le i (drop from a) (omega (arith, length-drop from a)) in
+    rw (take-add i n (drop from a), drop-drop i from a, sets-append l to first (take n (drop (from + i) a)), long, ← e)
 
 -- all places
 pub sets_whole : (l vs : List ℕ) → length vs ≡ length l → sets l 0 vs ≡ vs

@@ -1,4 +1,4 @@
-// The C interface as a static library: each function of the crate mopsienna, exported with its contract.
+// The C interface as a static library: each operation of document 01, by the crate calls at document 01's page size.
 //
 // A function returns 0, or document 01's number of the refusal. Its values go to `out`, whose other places stay as they were.
 // include/mopsienna.h is the manual.

@@ -1,6 +1,8 @@
 // The free list: reading it from a store.
-ghost use Rattle.page.specs.PageSize.{standard};
+ghost use Rattle.page.specs.PageSize.{standard_page_size};
 ghost use Rattle.calls.specs.Lists.{ReadsList};
+
+use page::size::PageSize;
 
 // out: P, L. Refusals 2, 3 and 4: the page.
 #[unsafe(no_mangle)]
@@ -11,7 +13,7 @@ pub extern "C" fn mopsienna_read_list(
     entries: &mut [u32],
     out: &mut [u64; 8],
 ) -> u32
-    ensures { ReadsList standard store head pages entries out result }
+    ensures { ReadsList standard_page_size store head pages entries out result }
 {
-    mopsienna::lists::mopsienna_read_list(store, head, pages, entries, out)
+    calls::lists::read_list(PageSize::standard(), store, head, pages, entries, out)
 }

@@ -1,6 +1,8 @@
 // The open save: handing out numbers, and finishing.
-ghost use Rattle.page.specs.PageSize.{standard};
+ghost use Rattle.page.specs.PageSize.{standard_page_size};
 ghost use Rattle.calls.specs.Saves.{HandsOut, Finishes};
+
+use page::size::PageSize;
 
 // out: the number, the count of numbers handed out, the recorded length.
 #[unsafe(no_mangle)]
@@ -14,9 +16,19 @@ pub extern "C" fn mopsienna_hand_out(
     entries: &[u32],
     out: &mut [u64; 8],
 ) -> u32
-    ensures { HandsOut standard bump length p l count pages entries out result }
+    ensures { HandsOut standard_page_size bump length p l count pages entries out result }
 {
-    mopsienna::saves::mopsienna_hand_out(bump, length, p, l, count, pages, entries, out)
+    calls::saves::hand_out(
+        PageSize::standard(),
+        bump,
+        length,
+        p,
+        l,
+        count,
+        pages,
+        entries,
+        out,
+    )
 }
 
 // out: head, bump, recorded length, P, L, pages written. Refusal 8: the place of the freed number.
@@ -34,9 +46,20 @@ pub extern "C" fn mopsienna_finish(
     numbers: &mut [u32],
     out: &mut [u64; 8],
 ) -> u32
-    ensures { Finishes standard bump length p l count pages entries freed buffer numbers out result }
+    ensures { Finishes standard_page_size bump length p l count pages entries freed buffer numbers out result }
 {
-    mopsienna::saves::mopsienna_finish(
-        bump, length, p, l, count, pages, entries, freed, buffer, numbers, out,
+    calls::saves::finish(
+        PageSize::standard(),
+        bump,
+        length,
+        p,
+        l,
+        count,
+        pages,
+        entries,
+        freed,
+        buffer,
+        numbers,
+        out,
     )
 }

@@ -1,6 +1,8 @@
 // Values: writing their pages, their cells, reading and deleting.
-ghost use Rattle.page.specs.PageSize.{standard};
+ghost use Rattle.page.specs.PageSize.{standard_page_size};
 ghost use Rattle.calls.specs.Values.{WritesPage, EncodesCell, DecodesCell, ReadsValue, DeletesValue};
+
+use page::size::PageSize;
 
 // Writes page `index` of a value to the start of the page buffer.
 #[unsafe(no_mangle)]
@@ -10,9 +12,9 @@ pub extern "C" fn mopsienna_write_value_page(
     index: u64,
     page: &mut [u8],
 ) -> u32
-    ensures { WritesPage standard value numbers index page result }
+    ensures { WritesPage standard_page_size value numbers index page result }
 {
-    mopsienna::values::mopsienna_write_value_page(value, numbers, index, page)
+    calls::values::write_value_page(PageSize::standard(), value, numbers, index, page)
 }
 
 // Writes a cell to the start of the cell buffer: its size, hash and numbers.
@@ -23,17 +25,17 @@ pub extern "C" fn mopsienna_encode_cell(
     numbers: &[u32],
     buffer: &mut [u8],
 ) -> u32
-    ensures { EncodesCell standard size hash numbers buffer result }
+    ensures { EncodesCell standard_page_size size hash numbers buffer result }
 {
-    mopsienna::values::mopsienna_encode_cell(size, hash, numbers, buffer)
+    calls::values::encode_cell(PageSize::standard(), size, hash, numbers, buffer)
 }
 
 // out: size, count of numbers.
 #[unsafe(no_mangle)]
 pub extern "C" fn mopsienna_decode_cell(cell: &[u8], hash: &mut [u8; 32], out: &mut [u64; 8]) -> u32
-    ensures { DecodesCell standard cell hash out result }
+    ensures { DecodesCell standard_page_size cell hash out result }
 {
-    mopsienna::values::mopsienna_decode_cell(cell, hash, out)
+    calls::values::decode_cell(PageSize::standard(), cell, hash, out)
 }
 
 // out: size, numbers found. Refusals 14, 15 and 16: the index in the walk.
@@ -45,9 +47,9 @@ pub extern "C" fn mopsienna_read_value(
     value: &mut [u8],
     out: &mut [u64; 8],
 ) -> u32
-    ensures { ReadsValue standard cell store numbers value out result }
+    ensures { ReadsValue standard_page_size cell store numbers value out result }
 {
-    mopsienna::values::mopsienna_read_value(cell, store, numbers, value, out)
+    calls::values::read_value(PageSize::standard(), cell, store, numbers, value, out)
 }
 
 // out: numbers found. Refusals 14, 15 and 16: the index in the walk.
@@ -58,7 +60,7 @@ pub extern "C" fn mopsienna_delete_value(
     numbers: &mut [u32],
     out: &mut [u64; 8],
 ) -> u32
-    ensures { DeletesValue standard cell store numbers out result }
+    ensures { DeletesValue standard_page_size cell store numbers out result }
 {
-    mopsienna::values::mopsienna_delete_value(cell, store, numbers, out)
+    calls::values::delete_value(PageSize::standard(), cell, store, numbers, out)
 }

@@ -5,11 +5,11 @@ use mathlib.Core.List.{List, [], ◌∷◌, ◌++◌, append_assoc, append-nil, 
 use native.Mathlib.Nat.{le_of_suc-le-suc, not-suc-le-zero, mul-zero, mul-suc, zero-add, add-zero, add_assoc, pow-zero, pow-suc, pow-succ', div-one, div-div-eq-div-mul, div-lt_iff_lt-mul}
 use native.Mathlib.Numerals.{add-one}
 use native.Mathlib.Omega.{arith}
-use lib.ListN.{length, get_or, take, drop, set, replicate, length-append, get_or-append}
-use lib.Seq.{sets, drop-cons, take-suc, length-take-le, get_or-take, get_or-drop, get_or-append-add}
+use lib.ListN.{length, get_or, take, drop, set, replicate, length-append, get_or-append, length-drop}
+use lib.Seq.{sets, drop-cons, take-suc, length-take-le, get_or-take, get_or-drop, get_or-append-add, take-add, drop-drop}
 use Rattle.std.specs.Int.{byte_at, bytes_low_first}
 use Rattle.page.specs.Bytes.{number_at, bytes_of, numbers_at, bytes_of_all}
-use Rattle.laws.proofs.SetsLaws.{part_copied, sets-append, sets-snoc}
+use Rattle.laws.proofs.SetsLaws.{part_copied, sets-append, sets-snoc, take-sets}
 
 -- ---- reading
 
@@ -141,6 +141,23 @@ unfolding bytes_of_all
 length-bytes_of_all w [] = rw mul-zero
 length-bytes_of_all w (n ∷ ns) = omega (arith, length-append (bytes_of w n) (bytes_of_all w ns), length_bytes_of w n, length-bytes_of_all w ns, mul-suc w (length ns))
 
+-- the bytes of numbers that were read are those that they were read from
+pub bytes_of_all-numbers_at : (w : ℕ) (b : List ℕ) (i n : ℕ) → ((k : ℕ) → get_or b k 0 < 256) → i + w * n ≤ length b → bytes_of_all w (numbers_at w b i n) ≡ take (w * n) (drop i b)
+unfolding numbers_at bytes_of_all
+bytes_of_all-numbers_at w b i zero bytes h = rw mul-zero
+bytes_of_all-numbers_at w b i (suc n) bytes h =
+    let all : w * suc n ≡ w + w * n = omega (arith, mul-suc w n) in
+    rw (bytes_of_number_at w b i bytes (omega (arith, mul-suc w n)), bytes_of_all-numbers_at w b (i + w) n bytes (omega (arith, mul-suc w n)), all, take-add w (w * n) (drop i b), drop-drop w i b)
+
+-- also by way of a table
+pub words_copied : (w : ℕ) (b table read : List ℕ) (i n : ℕ) → ((k : ℕ) → get_or b k 0 < 256) → i + w * n ≤ length b → n ≤ length table
+    → read ≡ sets table 0 (numbers_at w b i n) → bytes_of_all w (take n read) ≡ take (w * n) (drop i b)
+words_copied w b table read i n bytes h fits e =
+    let ns = numbers_at w b i n in
+    let long : length ns ≡ n = length-numbers_at w b i n in
+    let first : take n (sets table 0 ns) ≡ ns = rw long at (take-sets table ns (omega arith)) in
+    rw (e, first) (bytes_of_all-numbers_at w b i n bytes h)
+
 pub bytes_of_all-append : (w : ℕ) (ms ns : List ℕ) → bytes_of_all w (ms ++ ns) ≡ bytes_of_all w ms ++ bytes_of_all w ns
 unfolding bytes_of_all
 bytes_of_all-append w [] ns = refl
@@ -164,19 +181,20 @@ numbers_at-bytes_of_all w (n ∷ ns) rest fit =
 -- ---- numbers written one after another
 
 -- a table that holds the first i numbers, with one more stored behind them
-pub numbers_more : (w : ℕ) (l m b : List ℕ) (at i x : ℕ) → m ≡ sets l 0 (numbers_at w b at i) → x ≡ number_at w b (at + w * i)
-    → set m i x ≡ sets l 0 (numbers_at w b at (i + 1))
-numbers_more w l m b at i x e f =
-    rw (add-one, numbers_at-snoc w b at i, sets-snoc l 0 (numbers_at w b at i) (number_at w b (at + w * i)) i (length-numbers_at w b at i), zero-add, ← e, f)
+pub numbers_more : (w : ℕ) (l m b : List ℕ) (at to i x : ℕ) → m ≡ sets l to (numbers_at w b at i) → x ≡ number_at w b (at + w * i)
+    → set m (to + i) x ≡ sets l to (numbers_at w b at (i + 1))
+numbers_more w l m b at to i x e f =
+    rw (add-one, numbers_at-snoc w b at i, sets-snoc l to (numbers_at w b at i) (number_at w b (at + w * i)) i (length-numbers_at w b at i), ← e, f)
 
 -- bytes that hold the first i numbers of a table, with one more written behind them
-pub bytes_more : (w : ℕ) (l m r table : List ℕ) (at i : ℕ) → i < length table → m ≡ sets l at (bytes_of_all w (take i table))
-    → r ≡ sets m (at + w * i) (bytes_of w (get_or table i 0)) → r ≡ sets l at (bytes_of_all w (take (i + 1) table))
+pub bytes_more : (w : ℕ) (l m r table : List ℕ) (from at i : ℕ) → from + i < length table → m ≡ sets l at (bytes_of_all w (take i (drop from table)))
+    → r ≡ sets m (at + w * i) (bytes_of w (get_or table (from + i) 0)) → r ≡ sets l at (bytes_of_all w (take (i + 1) (drop from table)))
 unfolding bytes_of_all
-bytes_more w l m r table at i h e f =
-    let first = take i table in
-    let more : take (i + 1) table ≡ first ++ (get_or table i 0 ∷ []) = rw (add-one, take-suc table i 0 h) in
-    let long : length (bytes_of_all w first) ≡ w * i = rw (length-bytes_of_all, length-take-le i table (omega arith)) in
+bytes_more w l m r table from at i h e f =
+    let first = take i (drop from table) in
+    let inside : i < length (drop from table) = omega (arith, length-drop from table) in
+    let more : take (i + 1) (drop from table) ≡ first ++ (get_or table (from + i) 0 ∷ []) = rw (add-one, take-suc (drop from table) i 0 inside, get_or-drop) in
+    let long : length (bytes_of_all w first) ≡ w * i = rw (length-bytes_of_all, length-take-le i (drop from table) (omega (arith, length-drop from table))) in
     rw (more, bytes_of_all-append w first, append-nil, sets-append l at (bytes_of_all w first), long, ← e) f
 
 -- the first 8 i bytes of a, with the next eight carried over as one number
@@ -185,4 +203,5 @@ pub word_copied : (l m r a : List ℕ) (at i x : ℕ) → ((k : ℕ) → get_or 
 word_copied l m r a at i x bytes h e f g =
     let all : 8 * i + 8 ≡ 8 * (i + 1) = omega arith in
     let word : bytes_of 8 x ≡ take 8 (drop (8 * i) a) = rw f (bytes_of_number_at 8 a (8 * i) bytes h) in
-    rw (g, word, part_copied l m a at (8 * i) 8 (omega arith) e, all)
+    let more = part_copied l m a 0 at (8 * i) 8 (omega arith) e in
+    rw (g, word) (simp zero-add at more ∙ rw all)

@@ -19,15 +19,19 @@ pub page_words : {s : ℕ} → IsPageSize s → 4 * (s / 4) ≡ s
 page_words size = omega (arith, size.multiple)
 
 -- document 01's page size is one
-pub standard_size : IsPageSize standard_page_size
+pub page-size : IsPageSize standard_page_size
 unfolding capacity
-standard_size = record { multiple = refl; two_entries = omega arith; limit = omega arith }
+page-size = record { multiple = refl; two_entries = omega arith; limit = omega arith }
 
 -- each value of the code's type is one, and each page size is a value of it
-pub is_size : (words : ℕ) → IsPageSize (page_size_of words)
+pub page-bytes : (words : ℕ) → IsPageSize (page_size_of words)
 unfolding capacity page_size_of
-is_size words = record { multiple = omega arith; two_entries = omega arith; limit = omega arith }
+page-bytes words = record { multiple = omega arith; two_entries = omega arith; limit = omega arith }
 
 pub every_size : (s : ℕ) → IsPageSize s → page_size_of ((s - 16) / 4) ≡ s
 unfolding page_size_of
 every_size s size = omega (arith, page_least size, size.multiple, size.limit)
+
+pub standard-bytes : page_size_of ((standard_page_size - 16) / 4) ≡ standard_page_size
+unfolding page_size_of
+standard-bytes = refl

@@ -22,7 +22,7 @@ impl Model for PageSize {
 
 impl PageSize {
     // Document 01's: 4,096 bytes.
-    #[tactic(auto, using(crate::proofs::PageSizeLaws::standard_size))]
+    #[tactic(auto, unfolding(crate::specs::PageSize::capacity))]
     pub fn standard() -> PageSize
         ensures { result ≡ standard_page_size }
     {

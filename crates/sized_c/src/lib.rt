@@ -1,14 +1,16 @@
-// The functions of the crate sized as a static library, for the comparison with the Rust: each is exported with its contract.
+// The operations of the C interface at any page size, as a static library for the comparison with the Rust.
 //
 // A page has so many words of four bytes more than the four that the least page has.
 #![tactic(auto)]
 
-ghost use Rattle.sized.specs.Sizes.{page_size_of};
+ghost use Rattle.page.specs.PageSize.{page_size_of};
 ghost use Rattle.calls.specs.Lists.{ReadsList};
 ghost use Rattle.calls.specs.Lookups.{LooksUp};
 ghost use Rattle.calls.specs.Saves.{HandsOut, Finishes};
 ghost use Rattle.calls.specs.Totals.{TellsTotal};
 ghost use Rattle.calls.specs.Values.{WritesPage, EncodesCell, DecodesCell, ReadsValue, DeletesValue};
+
+use page::size::PageSize;
 
 #[unsafe(no_mangle)]
 pub extern "C" fn sized_read_list(
@@ -21,7 +23,14 @@ pub extern "C" fn sized_read_list(
 ) -> u32
     ensures { ReadsList (page_size_of words) store head pages entries out result }
 {
-    sized::sized_read_list(words, store, head, pages, entries, out)
+    calls::lists::read_list(
+        PageSize::of_words(words as usize),
+        store,
+        head,
+        pages,
+        entries,
+        out,
+    )
 }
 
 #[unsafe(no_mangle)]
@@ -35,7 +44,14 @@ pub extern "C" fn sized_lookup(
 ) -> u32
     ensures { LooksUp (page_size_of words) numbers pending store page out result }
 {
-    sized::sized_lookup(words, numbers, pending, store, page, out)
+    calls::lookups::lookup(
+        PageSize::of_words(words as usize),
+        numbers,
+        pending,
+        store,
+        page,
+        out,
+    )
 }
 
 #[unsafe(no_mangle)]
@@ -52,7 +68,17 @@ pub extern "C" fn sized_hand_out(
 ) -> u32
     ensures { HandsOut (page_size_of words) bump length p l count pages entries out result }
 {
-    sized::sized_hand_out(words, bump, length, p, l, count, pages, entries, out)
+    calls::saves::hand_out(
+        PageSize::of_words(words as usize),
+        bump,
+        length,
+        p,
+        l,
+        count,
+        pages,
+        entries,
+        out,
+    )
 }
 
 #[unsafe(no_mangle)]
@@ -72,8 +98,19 @@ pub extern "C" fn sized_finish(
 ) -> u32
     ensures { Finishes (page_size_of words) bump length p l count pages entries freed buffer numbers out result }
 {
-    sized::sized_finish(
-        words, bump, length, p, l, count, pages, entries, freed, buffer, numbers, out,
+    calls::saves::finish(
+        PageSize::of_words(words as usize),
+        bump,
+        length,
+        p,
+        l,
+        count,
+        pages,
+        entries,
+        freed,
+        buffer,
+        numbers,
+        out,
     )
 }
 
@@ -81,7 +118,7 @@ pub extern "C" fn sized_finish(
 pub extern "C" fn sized_total(words: u64, size: u64, out: &mut [u64; 8]) -> u32
     ensures { TellsTotal (page_size_of words) size out result }
 {
-    sized::sized_total(words, size, out)
+    calls::totals::total(PageSize::of_words(words as usize), size, out)
 }
 
 #[unsafe(no_mangle)]
@@ -94,7 +131,13 @@ pub extern "C" fn sized_write_value_page(
 ) -> u32
     ensures { WritesPage (page_size_of words) value numbers index page result }
 {
-    sized::sized_write_value_page(words, value, numbers, index, page)
+    calls::values::write_value_page(
+        PageSize::of_words(words as usize),
+        value,
+        numbers,
+        index,
+        page,
+    )
 }
 
 #[unsafe(no_mangle)]
@@ -107,7 +150,13 @@ pub extern "C" fn sized_encode_cell(
 ) -> u32
     ensures { EncodesCell (page_size_of words) size hash numbers buffer result }
 {
-    sized::sized_encode_cell(words, size, hash, numbers, buffer)
+    calls::values::encode_cell(
+        PageSize::of_words(words as usize),
+        size,
+        hash,
+        numbers,
+        buffer,
+    )
 }
 
 #[unsafe(no_mangle)]
@@ -119,7 +168,7 @@ pub extern "C" fn sized_decode_cell(
 ) -> u32
     ensures { DecodesCell (page_size_of words) cell hash out result }
 {
-    sized::sized_decode_cell(words, cell, hash, out)
+    calls::values::decode_cell(PageSize::of_words(words as usize), cell, hash, out)
 }
 
 #[unsafe(no_mangle)]
@@ -133,7 +182,14 @@ pub extern "C" fn sized_read_value(
 ) -> u32
     ensures { ReadsValue (page_size_of words) cell store numbers value out result }
 {
-    sized::sized_read_value(words, cell, store, numbers, value, out)
+    calls::values::read_value(
+        PageSize::of_words(words as usize),
+        cell,
+        store,
+        numbers,
+        value,
+        out,
+    )
 }
 
 #[unsafe(no_mangle)]
@@ -146,5 +202,11 @@ pub extern "C" fn sized_delete_value(
 ) -> u32
     ensures { DeletesValue (page_size_of words) cell store numbers out result }
 {
-    sized::sized_delete_value(words, cell, store, numbers, out)
+    calls::values::delete_value(
+        PageSize::of_words(words as usize),
+        cell,
+        store,
+        numbers,
+        out,
+    )
 }

@@ -4,6 +4,7 @@ use Rattle.page.proofs.copy.copy_steps.Goals as goal
 use mathlib.Core.Path.{◌∙◌, ap}
 use Rattle.std.proofs.Math.Seq.{take-length}
 use native.Mathlib.Omega.{arith}
+use native.Mathlib.Nat.{zero-add}
 use Rattle.laws.proofs.SetsLaws.{part_copied}
 use Rattle.page.proofs.BytesLaws.{word_copied}
 
@@ -20,4 +21,4 @@ returns c =
     let left = length x.a.now - done in
     let all : done + left ≡ length x.a.now = omega arith in
     let first = rw (← c.loop-i.invariant.counted) at c.loop-i.invariant.copied in
-    (omega arith, c.copy.ensures ∙ part_copied x.b.now c.loop-i.b x.a.now x.at done left (omega arith) first ∙ rw all (ap (sets x.b.now x.at) (take-length x.a.now)))
+    (omega arith, c.copy.ensures ∙ simp zero-add at (part_copied x.b.now c.loop-i.b x.a.now 0 x.at done left (omega arith) first) ∙ rw all (ap (sets x.b.now x.at) (take-length x.a.now)))

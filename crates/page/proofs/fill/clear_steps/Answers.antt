@@ -5,6 +5,7 @@ use mathlib.Core.Path.{◌∙◌, ap}
 use native.Mathlib.Omega.{arith}
 use lib.ListN.{length-drop, length-replicate}
 use lib.Seq.{length-take-le}
+use native.Mathlib.Nat.{zero-add}
 use Rattle.laws.proofs.SetsLaws.{part-written, sets_whole, zeros_joined}
 use Rattle.page.proofs.BytesLaws.{bytes_of_zero}
 
@@ -13,7 +14,7 @@ loop-i-preserved c = record {
   counted = omega arith;
   cleared =
       let more : 8 * c.loop-i.i + 8 ≡ 8 * (c.loop-i.i + 1) = omega arith in
-      c.write_at.ensures ∙ ap (sets c.loop-i.b (8 * c.loop-i.i)) (bytes_of_zero 8) ∙ rw more at (zeros_joined c.args.b.now c.loop-i.b (8 * c.loop-i.i) 8 c.loop-i.invariant.cleared);
+      c.write_at.ensures ∙ ap (sets c.loop-i.b (8 * c.loop-i.i)) (bytes_of_zero 8) ∙ rw (zero-add, more) at (zeros_joined c.args.b.now c.loop-i.b 0 (8 * c.loop-i.i) 8 c.loop-i.invariant.cleared);
 }
 
 pub returns : goal.returns
@@ -27,6 +28,6 @@ returns c =
     let first = rw (← c.loop-i.invariant.counted) at c.loop-i.invariant.cleared in (
       omega arith,
       rw zeros (part-written c.loop-i.b done left (replicate left 0) (length-replicate {A = ℕ} left 0) (omega arith))
-          ∙ rw all at (zeros_joined c.args.b.now c.loop-i.b done left first)
+          ∙ rw (zero-add, all) at (zeros_joined c.args.b.now c.loop-i.b 0 done left first)
           ∙ sets_whole c.args.b.now (replicate n 0) (length-replicate {A = ℕ} n 0),
     )

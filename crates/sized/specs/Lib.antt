@@ -1,2 +1,0 @@
--- Page sizes by their words (`Sizes`).
-pub mod Sizes
