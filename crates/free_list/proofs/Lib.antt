@@ -1,6 +1,5 @@
 -- Laws about the definitions of this crate, for the proofs here and above.
 pub mod ListPagesLaws
-pub mod PageRefs
 pub mod ReadingLaws
 pub mod RoundLaws
 pub mod FillingLaws

@@ -6,12 +6,13 @@ use native.Mathlib.Decide.{dec_lt}
 use native.Mathlib.Omega.{arith}
 use mathlib.Core.Path.{◌≡◌, ap, sym, ◌∙◌}
 use mathlib.Core.List.{List, ◌++◌, Memᴰ}
-use lib.ListN.{length, get_or, take, replicate, length-append, length-replicate}
+use lib.ListN.{length, get_or, take, drop, length-drop, replicate, length-append, length-replicate}
 use borrow.Author.Tests.{le-leb, lt-leb}
-use lib.Seq.{sets, take_all, take-length, get_or-append-add}
+use lib.Seq.{sets, length-sets, length-take-le, take_all, take-length, get_or-append-add}
+use borrow.Rule.Slice.PartMut.{put_mid}
 use Rattle.page.specs.PageSize.{capacity, IsPageSize}
 use Rattle.page.specs.Bytes.{number_at, bytes_of, numbers_at, bytes_of_all}
-use Rattle.laws.proofs.SetsLaws.{sets-append, sets_whole}
+use Rattle.laws.proofs.SetsLaws.{sets-append, sets_whole, part-written}
 use Rattle.page.proofs.PageSizeLaws.{page_least, page-room}
 use Rattle.page.proofs.BytesLaws.{number_at_same, number_at_append-left, number_at_append_right, numbers_at_same, number_at_bytes_of, numbers_at-bytes_of_all, length_bytes_of, length-numbers_at, length-bytes_of_all}
 use Rattle.free_list.specs.ListPages.{prev_of, count_of, entries_of, encode_list_page, prev_within, count_within, entry_within, places, page_within}
@@ -48,22 +49,27 @@ module _ (s prev : ℕ) (es : List ℕ) where
       omega (arith, length-append (bytes_of 4 prev) (bytes_of 2 (length es) ++ (bytes_of_all 4 es ++ replicate (s - (6 + 4 * length es)) 0)), length-append (bytes_of 2 (length es)) (bytes_of_all 4 es ++ replicate (s - (6 + 4 * length es)) 0), length-append (bytes_of_all 4 es) (replicate (s - (6 + 4 * length es)) 0), length_bytes_of 4 prev, length_bytes_of 2 (length es), length-bytes_of_all 4 es, length-replicate {A = ℕ} (s - (6 + 4 * length es)) 0)
 
   -- a page that was written part by part
-  pub encoded : (n : ℕ) (l a b c d : List ℕ) → length es ≡ n → length l ≡ s → 6 + 4 * n ≤ s
+  pub encoded : (l a b c zeros : List ℕ) → length l ≡ s → 6 + 4 * length es ≤ s
       → a ≡ sets l 0 (bytes_of 4 prev)
-      → b ≡ sets a 4 (bytes_of 2 n)
+      → b ≡ sets a 4 (bytes_of 2 (length es))
       → c ≡ sets b 6 (bytes_of_all 4 es)
-      → d ≡ sets c (6 + 4 * n) (replicate (s - (6 + 4 * n)) 0)
-      → d ≡ encode_list_page s prev es
+      → zeros ≡ replicate (length (take (length c - (6 + 4 * length es)) (drop (6 + 4 * length es) c))) 0
+      → put_mid (6 + 4 * length es) (length c - (6 + 4 * length es)) c zeros ≡ encode_list_page s prev es
   unfolding encode_list_page bytes_of
-  encoded n l a b c d count long fits p q r t =
+  encoded l a b c zeros long fits p q r t =
       let A = bytes_of 4 prev in
       let B = bytes_of 2 (length es) in
       let C = bytes_of_all 4 es in
       let D : List ℕ = replicate (s - (6 + 4 * length es)) 0 in
-      let whole = sets_whole l (encode_list_page s prev es) (length_encoded (omega arith) ∙ sym long) in
+      let same : length c ≡ s = omega (arith, ap length r, ap length q, ap length p, long, length-sets b 6 C, length-sets a 4 B, length-sets l 0 A) in
+      let rest : length (take (length c - (6 + 4 * length es)) (drop (6 + 4 * length es) c)) ≡ s - (6 + 4 * length es) =
+      length-take-le (length c - (6 + 4 * length es)) (drop (6 + 4 * length es) c) (omega (arith, length-drop (6 + 4 * length es) c)) ∙ omega (arith, same) in
+      let zero : zeros ≡ D = t ∙ rw rest in
+      let whole = sets_whole l (encode_list_page s prev es) (length_encoded fits ∙ sym long) in
       let parts = sets-append l 0 A (B ++ (C ++ D)) ∙ sets-append (sets l 0 A) 4 B (C ++ D) ∙ sets-append (sets (sets l 0 A) 4 B) 6 C D in
       let last = ap (λ (k : ℕ). sets (sets (sets (sets l 0 A) 4 B) 6 C) (6 + k) D) (length-bytes_of_all 4 es) in
-      t ∙ rw (r, q, p, ← count) (sym (parts ∙ last) ∙ whole)
+      part-written c (6 + 4 * length es) (length c - (6 + 4 * length es)) zeros (ap length zero ∙ length-replicate {A = ℕ} _ 0 ∙ omega (arith, same)) (omega (arith, same))
+      ∙ rw (zero, r, q, p) (sym (parts ∙ last) ∙ whole)
 
   -- what is encoded is decoded again
   module _ (prev_fits : prev < 2 ^ 32) (count_fits_lem : length es < 2 ^ 16) (entries_fit : (n : ℕ) → Memᴰ n es → n < 2 ^ 32) where

@@ -2,13 +2,13 @@
 use Prim.Native.Nat.{ℕ, zero, suc, ◌+◌, ◌-◌, ◌≤◌}
 use native.Mathlib.Omega.{arith}
 use mathlib.Core.Path.{◌≡◌, refl, sym, ap, ◌∙◌, subst}
-use mathlib.Core.Logic.{inl, inr}
-use mathlib.Core.Bool.{Bool, true, false, ◌&&◌}
+use mathlib.Core.Bool.{Bool, true, false}
 use mathlib.Core.List.{List, []}
-use lib.Dec.{eqb, leb}
-use borrow.Author.Tests.{lt-ltb, ne_eqb, eqb-true, leb-true}
+use lib.Dec.{eqb}
+use borrow.Author.Tests.{lt-ltb, ne_eqb, eqb-true}
 use Rattle.refusal.specs.Outcome.{refused}
-use Rattle.laws.proofs.Tests.{and-true}
+use Rattle.std.specs.Prelude.{Option, Some, None}
+use Rattle.std.specs.Option.{option_eq}
 use Rattle.page.specs.PageSize.{capacity}
 use Rattle.page.specs.Pages.{page_count, page_at}
 use Rattle.free_list.specs.ListPages.{prev_of, count_of}
@@ -61,23 +61,18 @@ module _ (s : ℕ) (store : List ℕ) (loose : Bool) where
   -- ---- the code's walk
 
   -- a walk that has come back to its mark
-  pub size_round : (w n : Walk) (mark : ℕ) → Marked s store loose mark w → Passed s store loose w n → eqb n.page mark && leb 1 mark ≡ true → refused 5 [] ≡ size_from s store loose n
+  pub size_round : (w n : Walk) (mark : Option ℕ) → Marked s store loose mark w → Passed s store loose w n → option_eq eqb mark (Some n.page) ≡ true → refused 5 [] ≡ size_from s store loose n
   unfolding size_from
-  size_round w n mark marked p e = go marked
-    where
-      same : n.page ≡ mark
-      same = eqb-true n.page mark (and-true (eqb n.page mark) (leb 1 mark) e).0
-
-      go : Marked s store loose mark w → refused 5 [] ≡ size_from s store loose n
-      go (inl none) = absurd (omega (arith, leb-true 1 mark (and-true (eqb n.page mark) (leb 1 mark) e).1, none))
-      go (inr (k, deep, trail)) =
-          let round : Trail s store loose (suc k) mark mark =
-          subst (λ (x : ℕ). Trail s store loose (suc k) mark x) (sym p.before ∙ same) (trail_more k mark w.page trail (p.passable deep)) in
-          let ends = on_the_way k mark round n.allowed (suc k) mark n.pages n.entries round (omega (arith, p.more)) in
-          rw (same, ends)
+  size_round w n None marked p e = cc
+  size_round w n (Some mark) (k, deep, trail) p e =
+      let same : mark ≡ n.page = eqb-true mark n.page e in
+      let round : Trail s store loose (suc k) mark mark =
+      subst (λ (x : ℕ). Trail s store loose (suc k) mark x) (sym p.before ∙ sym same) (trail_more k mark w.page trail (p.passable deep)) in
+      let ends = on_the_way k mark round n.allowed (suc k) mark n.pages n.entries round (omega (arith, p.more)) in
+      rw (← same, ends)
 
   -- a walk that goes on
-  pub marked_next : (w n : Walk) (mark : ℕ) → Marked s store loose mark w → Passed s store loose w n → Marked s store loose mark n
-  marked_next w n mark (inl none) p = inl none
-  marked_next w n mark (inr (k, deep, trail)) p =
-      inr (suc k, omega (arith, p.more), subst (λ (x : ℕ). Trail s store loose (suc k) mark x) (sym p.before) (trail_more k mark w.page trail (p.passable deep)))
+  pub marked_next : (w n : Walk) (mark : Option ℕ) → Marked s store loose mark w → Passed s store loose w n → Marked s store loose mark n
+  marked_next w n None marked p = tt
+  marked_next w n (Some mark) (k, deep, trail) p =
+      (suc k, omega (arith, p.more), subst (λ (x : ℕ). Trail s store loose (suc k) mark x) (sym p.before) (trail_more k mark w.page trail (p.passable deep)))

@@ -1,15 +1,17 @@
 -- List reading: from the head page through the previous numbers until nil.
-use Rattle.std.specs.Prelude.{ℕ, zero, suc, ◌+◌, Bool, true, false, ◌&&◌, ◌||◌, cond, List, [], ◌∷◌, ◌++◌, leb, ltb, eqb, length}
+use Rattle.std.specs.Prelude.{ℕ, zero, suc, ◌+◌, Bool, true, false, ◌&&◌, ◌||◌, cond, List, [], ◌∷◌, ◌++◌, leb, ltb, eqb, length, Result}
 use Rattle.std.proofs.lemmas.List.Edits.{sets}
 use Rattle.refusal.specs.Outcome.{Outcome, answer, refused, check, with_answer}
-use Rattle.refusal.specs.Refusals.{refusal}
+use Rattle.refusal.specs.Refusals.{outcome}
 use Rattle.refusal.specs.Effect.{LentMut, Effect, leaves}
 use Rattle.page.specs.PageSize.{capacity}
 use Rattle.page.specs.Pages.{page_count, page_at}
 use Rattle.free_list.specs.ListPages.{prev_of, count_of, entries_of}
 use Rattle.free_list.specs.Shape.{FreeList}
-use Rattle.free_list.specs.declared.read.ReadList.{ReadList}
-use Rattle.free_list.specs.declared.read.ReadList.TheVariants.{Read, Refused}
+use Rattle.refusal.specs.declared.Refusal.{Refusal}
+use Rattle.free_list.specs.declared.walk.ListCounts.{ListCounts}
+use Rattle.free_list.specs.declared.walk.Reading.{Reading}
+use Rattle.free_list.specs.declared.walk.Reading.TheVariants.{Strict, Loose}
 
 -- the list with no page
 abbrev pub empty_list : FreeList
@@ -82,7 +84,12 @@ unfoldable pub read_list_into : ℕ → List ℕ → Bool → ℕ → ListTables
 read_list_into s store loose head t =
     leaves size_of (list_in t) t (with_answer (λ l. check (has_room t l) 6 [] (answer l)) (list_from s store loose head))
 
+-- ---- what the code says, to a definition
+
+abbrev pub is_loose : Reading → Bool
+is_loose Strict = false
+is_loose Loose = true
+
 -- what the code answers, as an outcome
-abbrev pub read_outcome : ReadList → Outcome ListSize
-read_outcome (Read l) = answer (record { P = l.pages; L = l.entries })
-read_outcome (Refused r) = refusal r
+abbrev pub read_outcome : Result ListCounts Refusal → Outcome ListSize
+read_outcome = outcome (λ l. record { P = l.pages; L = l.entries })

@@ -1,7 +1,8 @@
 -- The reader's work in parts: the walk that only reads, and the filling of the tables. Only private functions cite these.
-use Rattle.std.specs.Prelude.{ℕ, zero, suc, ◌+◌, ◌*◌, ◌^◌, ◌≤◌, ◌<◌, ◌≡◌, ◌⊎◌, Bool, true, List, length}
+use Rattle.std.specs.Prelude.{ℕ, zero, suc, ◌+◌, ◌*◌, ◌^◌, ◌≤◌, ◌<◌, ◌≡◌, Bool, true, List, length, Option, Some, None, Result, Ok, Err}
 use Rattle.refusal.specs.Outcome.{Outcome, answer, with_answer}
 use Rattle.refusal.specs.Refusals.{refusal}
+use Rattle.refusal.specs.declared.Refusal.{Refusal}
 use Rattle.page.specs.PageSize.{IsPageSize, capacity, most_entries}
 use Rattle.page.specs.Pages.{page_count, page_at}
 use Rattle.free_list.specs.ListPages.{prev_of, count_of, entries_of}
@@ -9,10 +10,10 @@ use Rattle.free_list.specs.Shape.{FreeList}
 use Rattle.free_list.specs.Reading.{empty_list, on_top, count_fits, all_entries_fit, read_from, list_from, ListSize, size_of}
 use Rattle.free_list.specs.declared.walk.ListCounts.{ListCounts}
 use Rattle.free_list.specs.declared.walk.Walk.{Walk}
-use Rattle.free_list.specs.declared.walk.Visited.{Visited}
-use Rattle.free_list.specs.declared.walk.Visited.TheVariants.{Next, Unfit}
-use Rattle.free_list.specs.declared.walk.Descent.{Descent}
-use Rattle.free_list.specs.declared.walk.Descent.TheVariants.{Ended, More, Stopped}
+
+-- a walk that has just begun, which may visit so many pages
+abbrev pub walk_from : ℕ → ℕ → Walk
+walk_from allowed head = record { page = head; allowed = allowed; pages = 0; entries = 0 }
 
 -- what keeps the counts of a walk from wrapping: no more pages than a store has, and no more entries than they hold
 pub record WalkFits (w : Walk) : Type 0 where
@@ -32,15 +33,10 @@ module _ (s : ℕ) (store : List ℕ) (loose : Bool) where
       with_answer (λ l. answer (record { P = w.pages + length l.pages; L = w.entries + length l.entries }))
       (read_from s store loose w.allowed w.pages w.entries w.page)
 
-  -- what the answers of a visit and of a walk say of it
-  abbrev pub visited_size : Visited → Outcome ListSize
-  visited_size (Next w) = size_from w
-  visited_size (Unfit r) = refusal r
-
-  abbrev pub walked_size : Descent → Outcome ListSize
-  walked_size (Ended l) = answer (record { P = l.pages; L = l.entries })
-  walked_size (More w) = size_from w
-  walked_size (Stopped r) = refusal r
+  -- what the answer of a visit says of it
+  abbrev pub visited_size : Result Walk Refusal → Outcome ListSize
+  visited_size (Ok w) = size_from w
+  visited_size (Err r) = refusal r
 
   -- ---- a walk that goes round
 
@@ -56,19 +52,12 @@ module _ (s : ℕ) (store : List ℕ) (loose : Bool) where
   Trail zero p q = p ≡ q
   Trail (suc n) p q = Passable p × Trail n (prev_of (page_at s store p)) q
 
-  -- the walk has come from the marked page by such pages; 0 is no mark
-  abbrev pub Marked : ℕ → Walk → Type 0
-  Marked mark w = (mark ≡ 0) ⊎ ((n : ℕ) × (2 ≤ w.pages) × Trail n mark w.page)
+  -- the walk has come from its mark, if it has one, by such pages
+  abbrev pub Marked : Option ℕ → Walk → Type 0
+  Marked None w = Unit {0}
+  Marked (Some mark) w = (n : ℕ) × (2 ≤ w.pages) × Trail n mark w.page
 
-  -- ---- the contracts of a visit and of a walk
-
-  -- what a visit asks: a page to visit, and one allowed
-  pub record MayVisit (count : ℕ) (w : Walk) : Type 0 where
-    pub size : IsPageSize s
-    pub counted : count ≡ page_count s store
-    pub some : 1 ≤ w.page
-    pub allowed : 1 ≤ w.allowed
-    pub fits : WalkFits w
+  -- ---- the contract of a visit
 
   -- a visit passes a page and uses up one of the pages allowed
   pub record Passed (w n : Walk) : Type 0 where
@@ -78,30 +67,20 @@ module _ (s : ℕ) (store : List ℕ) (loose : Bool) where
     pub before : n.page ≡ prev_of (page_at s store w.page)
     pub passable : 2 ≤ w.pages → Passable w.page
 
-  abbrev pub Advanced : Walk → Visited → Type 0
-  Advanced w (Next n) = Passed w n
-  Advanced w (Unfit r) = Unit {0}
+  abbrev pub Advanced : Walk → Result Walk Refusal → Type 0
+  Advanced w (Ok n) = Passed w n
+  Advanced w (Err r) = Unit {0}
 
-  pub record Visits (w : Walk) (r : Visited) : Type 0 where
+  pub record Visits (w : Walk) (r : Result Walk Refusal) : Type 0 where
     pub size : visited_size r ≡ size_from w
     pub advanced : Advanced w r
 
-  -- what a walk asks
-  pub record MayWalk (count mark : ℕ) (w : Walk) : Type 0 where
-    pub size : IsPageSize s
-    pub counted : count ≡ page_count s store
-    pub fits : WalkFits w
-    pub marked : Marked mark w
-
-  -- a walk that goes on has used up as many pages as it may nest
-  abbrev pub Onward : ℕ → ℕ → Walk → Descent → Type 0
-  Onward mark nested w (Ended l) = Unit {0}
-  Onward mark nested w (More n) = (n.allowed + nested ≡ w.allowed) × WalkFits n × Marked mark n
-  Onward mark nested w (Stopped r) = Unit {0}
-
-  pub record Walks (mark nested : ℕ) (w : Walk) (r : Descent) : Type 0 where
-    pub size : walked_size r ≡ size_from w
-    pub onward : Onward mark nested w r
+-- what a visit asks: a page to visit, and the most entries of a page
+pub record MayVisit (s most : ℕ) (w : Walk) : Type 0 where
+  pub size : IsPageSize s
+  pub capped : most ≡ capacity s
+  pub some : 1 ≤ w.page
+  pub fits : WalkFits w
 
 -- ---- filling the tables
 

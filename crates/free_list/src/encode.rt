@@ -1,43 +1,30 @@
 // Making a list page.
-ghost use Rattle.std.specs.Prelude.{◌≡◌, ◌+◌, ◌*◌, ◌^◌, ◌<◌, ◌≤◌, length, take};
-ghost use Rattle.free_list.specs.ListPages.{encode_list_page, places, page_within};
+ghost use Rattle.std.specs.Prelude.{◌≡◌, ◌+◌, ◌*◌, ◌^◌, ◌<◌, ◌≤◌, length};
+ghost use Rattle.free_list.specs.ListPages.{encode_list_page, page_within};
 
-use page::fill::clear;
-use page::least::least;
-use page::little_endian::{write_numbers, write_u16, write_u32};
+use crate::list_page::entry_places;
+use page::little_endian::{LittleEndian, write_numbers};
 use page::number::PageNumber;
 
-// The largest count that 16 bits hold.
-const MAX_COUNT: usize = 65535;
-
-// Makes a list page of all the lent bytes, with as many of the entries as it has places for. Fewer bytes than a header stay as they were.
+// Makes a list page of all the lent bytes, with as many of the entries as it has places for, and as its count of 16 bits allows. Fewer
+// bytes than a header stay as they were.
 pub fn encode_free_list_page(prev: PageNumber, entries: &[u32], page: &mut [u8])
     ensures { page.new ≡ page_within prev.0 entries.now page.old }
 {
     if page.len() < 6 {
         return;
     }
-    let n = least(entries.len(), entry_places(page.len()));
-    write_page(prev, entries, n, page);
+    let places = entry_places(page.len()).min(usize::from(u16::MAX));
+    write_page(prev, &entries[..entries.len().min(places)], page);
 }
 
-// How many entries a page of so many bytes has places for.
-fn entry_places(bytes: usize) -> usize
-    requires { 6 ≤ bytes }
-    ensures { result ≡ places bytes }
+// Makes a page of entries that fit it.
+fn write_page(prev: PageNumber, entries: &[u32], page: &mut [u8])
+    requires { (6 + 4 * length entries.now ≤ length page.old) × (length entries.now < 2 ^ 16) }
+    ensures { page.new ≡ encode_list_page (length page.old) prev.0 entries.now }
 {
-    least((bytes - 6) / 4, MAX_COUNT)
-}
-
-// Makes a page of the first n entries, which fit it.
-fn write_page(prev: PageNumber, entries: &[u32], n: usize, page: &mut [u8])
-    requires { (n ≤ length entries.now) × (6 + 4 * n ≤ length page.old) × (n < 2 ^ 16) }
-    ensures { page.new ≡ encode_list_page (length page.old) prev.0 (take n entries.now) }
-{
-    let size = page.len();
-    let under = prev.0;
-    write_u32(page, 0, under);
-    write_u16(page, 4, n as u16);
-    write_numbers(entries, 0, n, page, 6);
-    clear(page, 6 + 4 * n, size);
+    prev.0.write_at(page, 0);
+    (entries.len() as u16).write_at(page, 4);
+    write_numbers(entries, page, 6);
+    page[6 + 4 * entries.len()..].fill(0);
 }

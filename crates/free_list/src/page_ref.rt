@@ -1,97 +1,61 @@
-// A list page that is held: a struct with the lent bytes, whose methods read what stands on them.
-//
-// Nothing is asked of the bytes. A page shorter than its header has no previous page and no entries, and an entry that the page ends
-// before is nil. Callers outside take `header` and `entry`, whose parameters are plain.
-ghost use Rattle.std.specs.Prelude.{◌≡◌};
+// A list page: bytes 0-3 the previous list page, 4-5 the count of entries, then the entries, four bytes each.
+ghost use Rattle.std.specs.Prelude.{◌≡◌, ℕ, List};
 ghost use Rattle.free_list.specs.ListPages.{prev_within, count_within, entry_within};
 
-use crate::list_page::{item, item_count, prev_pn};
+use page::little_endian::LittleEndian;
 use page::number::PageNumber;
+use std::marker::Model;
 
-#[derive(Clone, Copy)]
+// The bytes of a list page, which are lent; in contracts it is the list of them.
+//
+// Nothing is asked of the bytes. A page shorter than its header has no previous page and no entries, and an entry that the page ends
+// before is nil.
+#[derive(Drop)]
 pub struct FreeListPageRef<'a>(pub &'a [u8]);
+
+impl<'a> Model for FreeListPageRef<'a> {
+    ghost Value = { List ℕ };
+
+    ghost view = { λ page. page.0.now };
+}
 
 impl<'a> FreeListPageRef<'a> {
     pub fn new(page: &'a [u8]) -> FreeListPageRef<'a>
-        ensures { result.0 ≡ page.entry }
+        ensures { result ≡ page.entry.now }
     {
         FreeListPageRef(page)
     }
 
     // The number of the previous list page.
-    pub fn prev_pn(self) -> PageNumber
-        ensures { result.0 ≡ prev_within self.entry.0.now }
+    #[tactic(auto, unfolding(crate::specs::ListPages::prev_within, crate::specs::ListPages::prev_of))]
+    pub fn prev_pn(&self) -> PageNumber
+        ensures { result.0 ≡ prev_within self.now }
     {
-        prev_within(self.0)
+        if self.0.len() < 6 {
+            return PageNumber(0);
+        }
+        PageNumber(u32::read_at(self.0, 0))
     }
 
     // The count of entries.
-    pub fn item_count(self) -> u16
-        ensures { result ≡ count_within self.entry.0.now }
+    #[tactic(auto, unfolding(crate::specs::ListPages::count_within, crate::specs::ListPages::count_of))]
+    pub fn item_count(&self) -> u16
+        ensures { result ≡ count_within self.now }
     {
-        count_within(self.0)
+        if self.0.len() < 6 {
+            return 0;
+        }
+        u16::read_at(self.0, 4)
     }
 
     // Entry i.
-    pub fn item(self, i: usize) -> PageNumber
-        ensures { result.0 ≡ entry_within self.entry.0.now i }
+    #[tactic(auto, unfolding(crate::specs::ListPages::entry_within))]
+    pub fn item(&self, i: usize) -> PageNumber
+        ensures { result.0 ≡ entry_within self.now i }
     {
-        item_within(self.0, i)
+        if self.0.len() < 10 || (self.0.len() - 10) / 4 < i {
+            return PageNumber(0);
+        }
+        PageNumber(u32::read_at(self.0, 6 + 4 * i))
     }
-}
-
-// The header of a list page.
-#[derive(Clone, Copy)]
-pub struct ListPageHeader {
-    pub prev: PageNumber,
-    pub count: u16,
-}
-
-pub fn header(page: &[u8]) -> ListPageHeader
-    ensures { (result.prev.0 ≡ prev_within page.now) × (result.count ≡ count_within page.now) }
-{
-    let p = FreeListPageRef::new(page);
-    ListPageHeader {
-        prev: p.prev_pn(),
-        count: p.item_count(),
-    }
-}
-
-// Entry i of a list page.
-pub fn entry(page: &[u8], i: usize) -> PageNumber
-    ensures { result.0 ≡ entry_within page.now i }
-{
-    FreeListPageRef::new(page).item(i)
-}
-
-// What the methods call.
-
-fn prev_within(page: &[u8]) -> PageNumber
-    ensures { result.0 ≡ prev_within page.now }
-{
-    if page.len() < 6 {
-        return PageNumber(0);
-    }
-    prev_pn(page)
-}
-
-fn count_within(page: &[u8]) -> u16
-    ensures { result ≡ count_within page.now }
-{
-    if page.len() < 6 {
-        return 0;
-    }
-    item_count(page)
-}
-
-fn item_within(page: &[u8], i: usize) -> PageNumber
-    ensures { result.0 ≡ entry_within page.now i }
-{
-    if page.len() < 10 {
-        return PageNumber(0);
-    }
-    if (page.len() - 10) / 4 < i {
-        return PageNumber(0);
-    }
-    item(page, i)
 }
