@@ -1,6 +1,8 @@
 -- List reading: from the head page through the previous numbers until nil.
 use Rattle.std.specs.Prelude.{ℕ, zero, suc, ◌+◌, Bool, true, false, ◌&&◌, ◌||◌, cond, List, [], ◌∷◌, ◌++◌, leb, ltb, eqb, length, Result}
 use Rattle.std.proofs.lemmas.List.Edits.{sets}
+use denote.Triple.Both.{Both}
+use Rattle.std.specs.Borrow.{MutBor}
 use Rattle.refusal.specs.Outcome.{Outcome, answer, refused, check, with_answer}
 use Rattle.refusal.specs.Refusals.{outcome}
 use Rattle.refusal.specs.Effect.{LentMut, Effect, leaves}
@@ -9,6 +11,7 @@ use Rattle.page.specs.Pages.{page_count, page_at}
 use Rattle.free_list.specs.ListPages.{prev_of, count_of, entries_of}
 use Rattle.free_list.specs.Shape.{FreeList}
 use Rattle.refusal.specs.declared.Refusal.{Refusal}
+use Rattle.free_list.specs.declared.tables.Tables.{Tables}
 use Rattle.free_list.specs.declared.walk.ListCounts.{ListCounts}
 use Rattle.free_list.specs.declared.walk.Reading.{Reading}
 use Rattle.free_list.specs.declared.walk.Reading.TheVariants.{Strict, Loose}
@@ -85,6 +88,16 @@ read_list_into s store loose head t =
     leaves size_of (list_in t) t (with_answer (λ l. check (has_room t l) 6 [] (answer l)) (list_from s store loose head))
 
 -- ---- what the code says, to a definition
+
+-- the tables that are lent to a call, before it and after it
+abbrev pub LentTables : Type 0
+LentTables = Both Tables (MutBor (List ℕ) × (MutBor (List ℕ) × Unit {0}))
+
+abbrev pub tables_before : LentTables → ListTables
+tables_before t = record { pages = t.entry.pages.now; entries = t.entry.entries.now }
+
+abbrev pub tables_after : LentTables → ListTables
+tables_after t = record { pages = t.exit.0.now; entries = t.exit.1.0.now }
 
 abbrev pub is_loose : Reading → Bool
 is_loose Strict = false

@@ -8,4 +8,5 @@ pub mod encode;
 pub mod list_page;
 pub mod page_ref;
 pub mod read;
+pub mod tables;
 pub mod walk;

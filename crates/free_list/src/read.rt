@@ -1,10 +1,11 @@
 // Reading a list into two lent tables: first a walk that only reads, then the filling, which cannot fail.
 ghost use Rattle.std.specs.Prelude.{◌≡◌, length};
-ghost use Rattle.refusal.specs.Effect.{before, after, effect};
-ghost use Rattle.free_list.specs.Reading.{is_loose, tables, list_in, read_list_into, read_outcome};
+ghost use Rattle.refusal.specs.Effect.{effect};
+ghost use Rattle.free_list.specs.Reading.{is_loose, tables_before, tables_after, list_in, read_list_into, read_outcome};
 ghost use Rattle.free_list.specs.Steps.{chain_from, Fillable};
 
 use crate::page_ref::FreeListPageRef;
+use crate::tables::Tables;
 use crate::walk::measure;
 pub use crate::walk::{ListCounts, Reading};
 use page::little_endian::read_numbers;
@@ -18,24 +19,25 @@ pub fn read(
     store: &Store,
     reading: Reading,
     head: PageNumber,
-    pages: &mut [u32],
-    entries: &mut [u32],
+    tables: Tables,
 ) -> Result<ListCounts, Refusal>
-    ensures { effect (read_outcome result) (tables after pages entries) ≡ read_list_into store.now.page_size store.now.bytes (is_loose reading) head.0 (tables before pages entries) }
+    ensures { effect (read_outcome result) (tables_after tables) ≡ read_list_into store.now.page_size store.now.bytes (is_loose reading) head.0 (tables_before tables) }
 {
+    let Tables { pages, entries } = tables;
     let list = measure(store, reading, head.0)?;
     if pages.len() < list.pages || entries.len() < list.entries {
         return Err(Refusal::Tables);
     }
-    fill(store, head.0, list, pages, entries);
+    fill(store, head.0, list, Tables { pages, entries });
     Ok(list)
 }
 
 // Fills the tables from their ends down, with the list of `list.pages` pages from page `head` down.
-fn fill(store: &Store, head: u32, list: ListCounts, pages: &mut [u32], entries: &mut [u32])
-    requires { Fillable store.now.page_size store.now.bytes head list (length pages.old) (length entries.old) }
-    ensures { tables after pages entries ≡ list_in (tables before pages entries) (chain_from store.now.page_size store.now.bytes list.pages head) }
+fn fill(store: &Store, head: u32, list: ListCounts, tables: Tables)
+    requires { Fillable store.now.page_size store.now.bytes head list (length tables.pages.now) (length tables.entries.now) }
+    ensures { tables_after tables ≡ list_in (tables_before tables) (chain_from store.now.page_size store.now.bytes list.pages head) }
 {
+    let Tables { pages, entries } = tables;
     let mut page = head;
     let mut at = list.entries;
     for left in (0..list.pages).rev() {

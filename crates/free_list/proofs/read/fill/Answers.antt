@@ -58,7 +58,7 @@ the_page {s} {store} {pages₀} {entries₀} {head} {left₀} {pages} {entries} 
           (rw (read, before, prev_within_lem b whole, count, bytes) this.next);
     }
 
-reached : (c : After-from-n) → Page c.args.store.now.page_size c.args.store.now.bytes c.args.pages.now c.args.entries.now c.args.head c.args.list.pages c.loop-left.pages c.loop-left.entries c.loop-left.page c.loop-left.left c.loop-left.at c.from-n.result c.page-bytes.result.now
+reached : (c : After-from-n) → Page c.args.store.now.page_size c.args.store.now.bytes c.args.tables.pages.now c.args.tables.entries.now c.args.head c.args.list.pages c.loop-left.pages c.loop-left.entries c.loop-left.page c.loop-left.left c.loop-left.at c.from-n.result c.page-bytes.result.now
 reached c = the_page c.loop-left-test.true c.loop-left.invariant c.page-bytes.ensures (c.from-n.ensures ∙ c.item_count.ensures ∙ ap count_within c.new-list_page.ensures)
 
 pub overflow_sub-at : goal.overflow_sub-at
