@@ -2,20 +2,19 @@
 -- the same as a page.
 use Prim.Native.Nat.{ℕ, ◌+◌, ◌*◌, ◌-◌, ◌^◌, min, ◌<◌, ◌≤◌}
 use native.Mathlib.Nat.{zero-add}
-use native.Mathlib.Decide.{dec_lt}
 use native.Mathlib.Omega.{arith}
 use mathlib.Core.Path.{◌≡◌, ap, sym, ◌∙◌}
 use mathlib.Core.List.{List, ◌++◌, Memᴰ}
 use lib.ListN.{length, get_or, take, drop, length-drop, replicate, length-append, length-replicate}
-use borrow.Author.Tests.{le-leb, lt-leb}
-use lib.Seq.{sets, length-sets, length-take-le, take_all, take-length, get_or-append-add}
+use borrow.Author.Tests.{le-leb}
+use lib.Seq.{sets, length-sets, length-take-le, take_all, get_or-append-add}
 use borrow.Rule.Slice.PartMut.{put_mid}
 use Rattle.page.specs.PageSize.{capacity, IsPageSize}
 use Rattle.page.specs.Bytes.{number_at, bytes_of, numbers_at, bytes_of_all}
 use Rattle.laws.proofs.SetsLaws.{sets-append, sets_whole, part-written}
 use Rattle.page.proofs.PageSizeLaws.{page_least, page-room}
 use Rattle.page.proofs.BytesLaws.{number_at_same, number_at_append-left, number_at_append_right, numbers_at_same, number_at_bytes_of, numbers_at-bytes_of_all, length_bytes_of, length-numbers_at, length-bytes_of_all}
-use Rattle.free_list.specs.ListPages.{prev_of, count_of, entries_of, encode_list_page, prev_within, count_within, entry_within, places, page_within}
+use Rattle.free_list.specs.ListPages.{prev_of, count_of, entries_of, encode_list_page, prev_within, count_within, places, page_within}
 
 pub length-entries_of : (b : List ℕ) → length (entries_of b) ≡ count_of b
 unfolding entries_of
@@ -107,39 +106,7 @@ pub count_within_lem : (b : List ℕ) → 6 ≤ length b → count_within b ≡ 
 unfolding count_within
 count_within_lem b h = rw (le-leb 6 (length b) h)
 
-pub entry_within_lem : (b : List ℕ) (i : ℕ) → 10 + 4 * i ≤ length b → entry_within b i ≡ number_at 4 b (6 + 4 * i)
-unfolding entry_within
-entry_within_lem b i h = rw (le-leb (10 + 4 * i) (length b) h)
-
--- and bytes that do not
-pub prev_past : (b : List ℕ) → length b < 6 → prev_within b ≡ 0
-unfolding prev_within
-prev_past b h = rw (lt-leb 6 (length b) h)
-
-pub count_past : (b : List ℕ) → length b < 6 → count_within b ≡ 0
-unfolding count_within
-count_past b h = rw (lt-leb 6 (length b) h)
-
-pub entry_past : (b : List ℕ) (i : ℕ) → length b < 10 + 4 * i → entry_within b i ≡ 0
-unfolding entry_within
-entry_past b i h = rw (lt-leb (10 + 4 * i) (length b) h)
-
 -- ---- a page of bytes of any length
-
--- as many entries as there are places fit
-pub places_fit : (n : ℕ) → 6 ≤ n → (6 + 4 * places n ≤ n) × (places n < 2 ^ 16)
-unfolding places capacity
-places_fit n h = (omega arith, omega arith)
-
--- the first ones, of those that there are
-pub take_least : (ns : List ℕ) (n : ℕ) → take (min (length ns) n) ns ≡ take n ns
-take_least ns n = go (dec_lt n (length ns))
-  where
-    go : Dec (n < length ns) → take (min (length ns) n) ns ≡ take n ns
-    go (yes h) = let e : min (length ns) n ≡ n = omega arith in rw e
-    go (no h) =
-        let e : min (length ns) n ≡ length ns = omega arith in
-        rw e (take-length ns ∙ sym (take_all n ns (omega arith)))
 
 -- at a page size, with entries that fit, it is the list page
 pub page_within_lem : {s : ℕ} → IsPageSize s → (prev : ℕ) (entries b : List ℕ) → length b ≡ s → length entries ≤ capacity s → page_within prev entries b ≡ encode_list_page s prev entries

@@ -8,6 +8,7 @@ use page::number::PageNumber;
 
 // Makes a list page of all the lent bytes, with as many of the entries as it has places for, and as its count of 16 bits allows. Fewer
 // bytes than a header stay as they were.
+#[tactic(auto, using(std::proofs::lemmas::List::take_min), unfolding(crate::specs::ListPages::page_within, crate::specs::ListPages::places, page::specs::PageSize::capacity))]
 pub fn encode_free_list_page(prev: PageNumber, entries: &[u32], page: &mut [u8])
     ensures { page.new ≡ page_within prev.0 entries.now page.old }
 {
@@ -15,7 +16,8 @@ pub fn encode_free_list_page(prev: PageNumber, entries: &[u32], page: &mut [u8])
         return;
     }
     let places = entry_places(page.len()).min(usize::from(u16::MAX));
-    write_page(prev, &entries[..entries.len().min(places)], page);
+    let n = places.min(entries.len());
+    write_page(prev, &entries[..n], page);
 }
 
 // Makes a page of entries that fit it.

@@ -104,6 +104,7 @@ fn unfit(entry: u32, count: u32) -> u32
 // Whether the first n entries of a list page are numbers of pages of a store of `count` pages, and none is 0. All are counted
 // that are not: without a way out in its middle the loop becomes vector code. With `all` in its place it takes two and a half times
 // as long, with `filter` and `count` almost four times; `map` and `sum` are as fast, but the check does not bound the sum.
+#[tactic(auto, using(crate::proofs::ReadingLaws::entries_more), unfolding(crate::specs::Reading::all_entries_fit, page::specs::Bytes::numbers_at))]
 fn entries_fit(page: &[u8], n: usize, count: u32) -> bool
     requires { (n < 65536) × (6 + 4 * n ≤ length page.now) }
     ensures { result ≡ all_entries_fit count (numbers_at 4 page.now 6 n) }
@@ -118,6 +119,7 @@ fn entries_fit(page: &[u8], n: usize, count: u32) -> bool
 // The size of the list with this head page, or why it is refused. Where the walk stands is marked each time that it has come twice as
 // far, so that a list whose pages point at each other is seen soon after the walk has gone round once: it comes back to its mark, and
 // would go round until no page is allowed.
+#[tactic(auto, using(page::proofs::PageSizeLaws::page_least, page::proofs::PagesLaws::page_count_fits, crate::proofs::ReadingLaws::size_start, crate::proofs::ReadingLaws::size_end, crate::proofs::RoundLaws::size_round, crate::proofs::RoundLaws::marked_next))]
 pub(crate) fn measure(store: &Store, reading: Reading, head: u32) -> Result<ListCounts, Refusal>
     ensures sized { IsPageSize store.now.page_size }
     ensures outcome { read_outcome result ≡ read_size store.now.page_size store.now.bytes (is_loose reading) head }
