@@ -1,13 +1,15 @@
 -- Reading into tables, from the size that the walk found.
 use Prim.Native.Nat.{ℕ, ◌<◌, ◌≤◌}
 use native.Mathlib.Omega.{arith}
-use mathlib.Core.Path.{◌≡◌, ap, sym, ◌∙◌, subst}
+use mathlib.Core.Path.{◌≡◌, refl, ap, sym, ◌∙◌, subst}
 use mathlib.Core.Bool.{Bool, true}
 use mathlib.Core.List.{List, []}
 use lib.Dec.{leb}
 use lib.ListN.{length}
 use borrow.Author.Tests.{le-leb, lt-leb}
 use Rattle.refusal.specs.Outcome.{answer, refused}
+use Rattle.refusal.specs.Refusals.{refusal}
+use Rattle.refusal.specs.declared.Refusal.{Refusal}
 use Rattle.refusal.specs.Effect.{effect}
 use Rattle.refusal.proofs.OutcomeLaws.{with_answer_answer, with_answer_refused}
 use Rattle.page.specs.Pages.{page_count}
@@ -49,10 +51,9 @@ module _ (s : ℕ) (store : List ℕ) (loose : Bool) (head : ℕ) where
 
   module _ (t : ListTables) where
     -- a refusal of the walk is that of the call
-    pub into-refused : {number : ℕ} {values : List ℕ} → refused number values ≡ read_size s store loose head
-        → effect (refused number values) t ≡ read_list_into s store loose head t
+    pub into-refused : (r : Refusal) → refusal r ≡ read_size s store loose head → effect (refusal r) t ≡ read_list_into s store loose head t
     unfolding read_size read_list_into
-    into-refused e = rw (with_answer_refused (λ l. size_of l) (list_from s store loose head) (sym e))
+    into-refused r e = rw (with_answer_refused (λ l. size_of l) (list_from s store loose head) (sym e)) refl
 
     module _ {P L : ℕ} (l : Listed s store loose head P L) where
       fits_pages : P ≤ length t.pages → leb (length l.list.pages) (length t.pages) ≡ true
@@ -61,11 +62,11 @@ module _ (s : ℕ) (store : List ℕ) (loose : Bool) (head : ℕ) where
       -- a table that is shorter than the list
       pub into-short-pages : length t.pages < P → effect (refused 6 []) t ≡ read_list_into s store loose head t
       unfolding read_list_into
-      into-short-pages h = rw (l.reads, lt-leb (length l.list.pages) (length t.pages) (omega (arith, l.pages)))
+      into-short-pages h = rw (l.reads, lt-leb (length l.list.pages) (length t.pages) (omega (arith, l.pages))) refl
 
       pub into-short-entries : P ≤ length t.pages → length t.entries < L → effect (refused 6 []) t ≡ read_list_into s store loose head t
       unfolding read_list_into
-      into-short-entries k h = rw (l.reads, fits_pages k, lt-leb (length l.list.entries) (length t.entries) (omega (arith, l.entries)))
+      into-short-entries k h = rw (l.reads, fits_pages k, lt-leb (length l.list.entries) (length t.entries) (omega (arith, l.entries))) refl
 
       -- room for it
       pub into-read : P ≤ length t.pages → L ≤ length t.entries

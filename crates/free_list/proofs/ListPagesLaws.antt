@@ -1,5 +1,4 @@
--- List pages: what is encoded is decoded again, what is decoded depends only on the bytes in use, and bytes that reach far enough say
--- the same as a page.
+-- List pages: what is encoded is decoded again, and bytes that reach far enough say the same as a page.
 use Prim.Native.Nat.{ℕ, ◌+◌, ◌*◌, ◌-◌, ◌^◌, min, ◌<◌, ◌≤◌}
 use native.Mathlib.Nat.{zero-add}
 use native.Mathlib.Omega.{arith}
@@ -10,32 +9,15 @@ use borrow.Author.Tests.{le-leb}
 use lib.Seq.{sets, length-sets, length-take-le, take_all, get_or-append-add}
 use borrow.Rule.Slice.PartMut.{put_mid}
 use Rattle.page.specs.PageSize.{capacity, IsPageSize}
-use Rattle.page.specs.Bytes.{number_at, bytes_of, numbers_at, bytes_of_all}
+use Rattle.page.specs.Bytes.{bytes_of, numbers_at, bytes_of_all}
 use Rattle.laws.proofs.SetsLaws.{sets-append, sets_whole, part-written}
 use Rattle.page.proofs.PageSizeLaws.{page_least, page-room}
-use Rattle.page.proofs.BytesLaws.{number_at_same, number_at_append-left, number_at_append_right, numbers_at_same, number_at_bytes_of, numbers_at-bytes_of_all, length_bytes_of, length-numbers_at, length-bytes_of_all}
+use Rattle.page.proofs.BytesLaws.{number_at_append-left, number_at_append_right, numbers_at_same, number_at_bytes_of, numbers_at-bytes_of_all, length_bytes_of, length-numbers_at, length-bytes_of_all}
 use Rattle.free_list.specs.ListPages.{prev_of, count_of, entries_of, encode_list_page, prev_within, count_within, places, page_within}
 
 pub length-entries_of : (b : List ℕ) → length (entries_of b) ≡ count_of b
 unfolding entries_of
 length-entries_of b = length-numbers_at 4 b 6 (count_of b)
-
--- two pages that a list reader cannot tell apart
-pub record SamePage (a b : List ℕ) : Type 0 where
-  pub prev : prev_of a ≡ prev_of b
-  pub count : count_of a ≡ count_of b
-  pub entries : entries_of a ≡ entries_of b
-
--- pages that agree on the header and on the entries in use
-pub same_page : (a b : List ℕ) → ((k : ℕ) → k < 6 + 4 * count_of a → get_or a k 0 ≡ get_or b k 0) → SamePage a b
-unfolding prev_of count_of entries_of
-same_page a b same =
-    let count : number_at 2 a 4 ≡ number_at 2 b 4 = number_at_same 2 a b 4 4 (λ k h. same (4 + k) (omega arith)) in
-    record {
-      prev = number_at_same 4 a b 0 0 (λ k h. same (0 + k) (omega arith));
-      count = count;
-      entries = numbers_at_same 4 a b 6 6 (number_at 2 a 4) (λ k h. same (6 + k) (omega arith)) ∙ ap (numbers_at 4 b 6) count;
-    }
 
 module _ (s prev : ℕ) (es : List ℕ) where
   padding : List ℕ

@@ -9,7 +9,7 @@ use Rattle.free_list.proofs.IntoLaws.{listed, into-refused, into-short-pages, in
 pub returns-in_err-list : goal.returns-in_err-list
 returns-in_err-list c =
     let p = err_from_is_err_and c.from_residual.result c.from_residual.ensures.1 in
-    rw (p.1, p.2) (into-refused _ _ _ _ _ c.in_err-list.ensures.outcome)
+    rw (p.1, p.2) (into-refused _ _ _ _ _ _ c.in_err-list.ensures.outcome)
 
 pub returns-then-pages-list : goal.returns-then-pages-list
 returns-then-pages-list c =
