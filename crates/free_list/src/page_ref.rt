@@ -10,7 +10,7 @@ use std::marker::Model;
 //
 // Nothing is asked of the bytes. A page shorter than its header has no previous page and no entries, and an entry that the page ends
 // before is nil.
-#[derive(Drop)]
+#[derive(Clone, Drop)]
 pub struct FreeListPageRef<'a>(pub &'a [u8]);
 
 impl<'a> Model for FreeListPageRef<'a> {
