@@ -10,6 +10,8 @@ use Rattle.free_list.specs.Shape.{FreeList}
 use Rattle.free_list.specs.Reading.{empty_list, on_top, count_fits, all_entries_fit, read_from, list_from, ListSize, size_of}
 use Rattle.free_list.specs.declared.walk.ListCounts.{ListCounts}
 use Rattle.free_list.specs.declared.walk.Walk.{Walk}
+use Rattle.free_list.specs.declared.walk.Descent.{Descent}
+use Rattle.free_list.specs.declared.walk.Descent.TheVariants.{Ended, More}
 
 -- a walk that has just begun, which may visit so many pages
 abbrev pub walk_from : ℕ → ℕ → Walk
@@ -74,6 +76,31 @@ module _ (s : ℕ) (store : List ℕ) (loose : Bool) where
   pub record Visits (w : Walk) (r : Result Walk Refusal) : Type 0 where
     pub size : visited_size r ≡ size_from w
     pub advanced : Advanced w r
+
+  -- ---- the contract of a walk
+
+  -- what the answer of a walk says of it
+  abbrev pub walked_size : Result Descent Refusal → Outcome ListSize
+  walked_size (Ok (Ended l)) = answer (record { P = l.pages; L = l.entries })
+  walked_size (Ok (More w)) = size_from w
+  walked_size (Err r) = refusal r
+
+  -- what a walk asks
+  pub record MayWalk (most : ℕ) (mark : Option ℕ) (w : Walk) : Type 0 where
+    pub size : IsPageSize s
+    pub capped : most ≡ capacity s
+    pub fits : WalkFits w
+    pub marked : Marked mark w
+
+  -- a walk that goes on has used up as many pages as it may nest
+  abbrev pub Onward : Option ℕ → ℕ → Walk → Result Descent Refusal → Type 0
+  Onward mark nested w (Ok (Ended l)) = Unit {0}
+  Onward mark nested w (Ok (More n)) = (n.allowed + nested ≡ w.allowed) × WalkFits n × Marked mark n
+  Onward mark nested w (Err r) = Unit {0}
+
+  pub record Walks (mark : Option ℕ) (nested : ℕ) (w : Walk) (r : Result Descent Refusal) : Type 0 where
+    pub size : walked_size r ≡ size_from w
+    pub onward : Onward mark nested w r
 
 -- what a visit asks: a page to visit, and the most entries of a page
 pub record MayVisit (s most : ℕ) (w : Walk) : Type 0 where

@@ -4,7 +4,7 @@ ghost use Rattle.page.specs.Bytes.{numbers_at};
 ghost use Rattle.page.specs.PageSize.{IsPageSize};
 ghost use Rattle.page.specs.Pages.{page_count};
 ghost use Rattle.free_list.specs.Reading.{is_loose, count_fits, all_entries_fit, read_outcome};
-ghost use Rattle.free_list.specs.Steps.{read_size, walk_from, MayVisit, Visits};
+ghost use Rattle.free_list.specs.Steps.{read_size, walk_from, MayVisit, Visits, MayWalk, Walks};
 
 use crate::list_page::entry_places;
 use crate::page_ref::FreeListPageRef;
@@ -36,6 +36,16 @@ pub(crate) struct Walk {
     pub pages: usize,
     pub entries: usize,
 }
+
+// How far a walk has come: the list has ended, or the walk has nested as many calls as it may, and goes on from here.
+#[derive(Clone, Copy)]
+pub(crate) enum Descent {
+    Ended(ListCounts),
+    More(Walk),
+}
+
+// How many calls the walk nests before it hands back where it stands: the stack that it takes does not grow with the store.
+const NESTED: usize = 256;
 
 impl Walk {
     // A walk from this head page, which may visit as many pages as the store has.
@@ -79,6 +89,37 @@ impl Walk {
             entries: self.entries + n,
         })
     }
+
+    // Walks down the list: each call visits a page and calls itself with one page fewer allowed. As a call keeps its frame, it nests only so
+    // many of them. A walk that comes back to the marked page, and passed on its way only pages that fit wherever they stand, would go round
+    // until no page is allowed.
+    #[tactic(auto, using(crate::proofs::ReadingLaws::size_end, crate::proofs::RoundLaws::size_round, crate::proofs::RoundLaws::marked_next))]
+    fn walk_down(
+        self,
+        store: &Store,
+        reading: Reading,
+        most: usize,
+        mark: Option<u32>,
+        nested: usize,
+    ) -> Result<Descent, Refusal>
+        requires { MayWalk store.now.page_size store.now.bytes (is_loose reading) most mark self }
+        ensures { Walks store.now.page_size store.now.bytes (is_loose reading) mark nested self result }
+    {
+        if self.page == 0 {
+            return Ok(Descent::Ended(ListCounts {
+                pages: self.pages,
+                entries: self.entries,
+            }));
+        }
+        if nested == 0 {
+            return Ok(Descent::More(self));
+        }
+        let next = self.visit(store, reading, most)?;
+        if mark == Some(next.page) {
+            return Err(Refusal::Chain);
+        }
+        next.walk_down(store, reading, most, mark, nested - 1)
+    }
 }
 
 // Whether a count of n fits a page under `above` pages with `entries` entries, where a page holds `most`.
@@ -116,10 +157,9 @@ fn entries_fit(page: &[u8], n: usize, count: u32) -> bool
     bad == 0
 }
 
-// The size of the list with this head page, or why it is refused. Where the walk stands is marked each time that it has come twice as
-// far, so that a list whose pages point at each other is seen soon after the walk has gone round once: it comes back to its mark, and
-// would go round until no page is allowed.
-#[tactic(auto, using(page::proofs::PageSizeLaws::page_least, page::proofs::PagesLaws::page_count_fits, crate::proofs::ReadingLaws::size_start, crate::proofs::ReadingLaws::size_end, crate::proofs::RoundLaws::size_round, crate::proofs::RoundLaws::marked_next))]
+// The size of the list with this head page, or why it is refused: the walk, as often as it takes. Where it stands is marked each time that
+// it has come twice as far, so that a list whose pages point at each other is seen soon after the walk has gone round once.
+#[tactic(auto, using(page::proofs::PageSizeLaws::page_least, page::proofs::PagesLaws::page_count_fits, crate::proofs::ReadingLaws::size_start))]
 pub(crate) fn measure(store: &Store, reading: Reading, head: u32) -> Result<ListCounts, Refusal>
     ensures sized { IsPageSize store.now.page_size }
     ensures outcome { read_outcome result ≡ read_size store.now.page_size store.now.bytes (is_loose reading) head }
@@ -128,18 +168,18 @@ pub(crate) fn measure(store: &Store, reading: Reading, head: u32) -> Result<List
     let mut walk = Walk::new(store, head);
     let mut mark = None;
     let mut due = 2;
-    while walk.page != 0 {
-        walk = walk.visit(store, reading, most)?;
-        if mark == Some(walk.page) {
-            return Err(Refusal::Chain);
-        }
-        if due <= walk.pages {
-            mark = Some(walk.page);
-            due = 2 * walk.pages;
+    loop {
+        match walk.walk_down(store, reading, most, mark, NESTED)? {
+            Descent::Ended(list) => {
+                return Ok(list);
+            }
+            Descent::More(next) => {
+                walk = next;
+                if due <= next.pages {
+                    mark = Some(next.page);
+                    due = 2 * next.pages;
+                }
+            }
         }
     }
-    Ok(ListCounts {
-        pages: walk.pages,
-        entries: walk.entries,
-    })
 }

@@ -5,13 +5,13 @@ use Rattle.free_list.specs.Reading.{is_loose}
 use Rattle.free_list.specs.Steps.{read_size, size_from, WalkFits, Marked}
 use Rattle.free_list.proofs.walk.measure.Given as goal
 
-abbrev pub invariant-loop-walk : goal.invariant-loop-walk
-invariant-loop-walk l = record {
+abbrev pub invariant-loop-list : goal.invariant-loop-list
+invariant-loop-list l = record {
   fits : WalkFits l.walk;
   same : size_from l.store.page_size l.store.bytes (is_loose l.reading) l.walk ≡ read_size l.store.page_size l.store.bytes (is_loose l.reading) l.head;
   marked : Marked l.store.page_size l.store.bytes (is_loose l.reading) l.mark l.walk;
   later : 2 ≤ l.due;
 }
 
-abbrev pub decreases-loop-walk : goal.decreases-loop-walk
-decreases-loop-walk l = l.walk.allowed
+abbrev pub decreases-loop-list : goal.decreases-loop-list
+decreases-loop-list l = l.walk.allowed
