@@ -1,6 +1,6 @@
 -- Admission, test by test, and what is known of a cell that is admitted.
 -- The tests are the definition's; a cell that is read has a size that no limit refuses.
-use Prim.Native.Nat.{ℕ, ◌<◌, ◌≤◌}
+use Prim.Native.Nat.{ℕ, ◌+◌, ◌<◌, ◌≤◌}
 use mathlib.Core.Path.{◌≡◌, refl, sym, ◌∙◌, ap}
 use mathlib.Core.Logic.{◌≢◌}
 use mathlib.Core.Bool.{Bool, ◌&&◌}
@@ -14,10 +14,10 @@ use Rattle.refusal.specs.Outcome.{Outcome, answer, refused, check, with_answer}
 use Rattle.refusal.proofs.OutcomeLaws.{unanswer, check_answer, with_answer_answer, with_answer_refused}
 use Rattle.page.specs.PageSize.{IsPageSize}
 use Rattle.overflow.specs.Totals.{max_size, total_pages}
-use Rattle.overflow.specs.Cells.{Cell, cell_of, decode_cell, CellCounts, cell_counts}
+use Rattle.overflow.specs.Cells.{Cell, cell_header, cell_of, decode_cell, CellCounts, cell_counts}
 use Rattle.overflow.specs.Reading.{admitted, numbers_room, bytes_room}
-use Rattle.overflow.specs.Steps.{needs_of, admitted_needs, Celled}
-use Rattle.overflow.specs.declared.admit.ValueNeeds.{ValueNeeds}
+use Rattle.overflow.specs.Steps.{needs_of, admitted_needs}
+use Rattle.overflow.specs.declared.walk.ValueCounts.{ValueCounts}
 use Rattle.overflow.proofs.TotalsLaws.{total_few}
 use Rattle.overflow.proofs.CellsLaws.{Decoding, decoded, not_decoded}
 
@@ -52,7 +52,7 @@ module _ (s : ℕ) (cell : List ℕ) (numbers bytes : ℕ) where
       unfolding admitted_needs admitted
       admit-bytes h b = rw (d.read, size_is, le-leb 1 k.size (omega arith), ← t, le-leb total numbers h, lt-leb k.size bytes b)
 
-      pub admit-all : total ≤ numbers → k.size ≤ bytes → answer (record { size = k.size; total = total }) ≡ admitted_needs s numbers bytes cell
+      pub admit-all : total ≤ numbers → k.size ≤ bytes → answer (record { size = k.size; numbers = total }) ≡ admitted_needs s numbers bytes cell
       unfolding admitted_needs admitted
       admit-all h b = rw (d.read, size_is, le-leb 1 k.size (omega arith), ← t, le-leb total numbers h, le-leb k.size bytes b, ← t)
 
@@ -63,12 +63,15 @@ module _ (s : ℕ) (cell : List ℕ) (numbers bytes : ℕ) where
   not_admitted e = with_answer_refused (needs_of s) (admitted s room cell) (sym e)
 
   -- the cell, and what is known of it
-  pub record Admission (needs : ValueNeeds) : Type 0 where
+  pub record Admission (needs : ValueCounts) : Type 0 where
     pub is : admitted s room cell ≡ answer (cell_of cell)
-    pub celled : (table : List ℕ) → length table ≡ numbers → Celled s cell needs table
-    pub value : needs.size ≤ bytes
+    pub needs_are : needs_of s (cell_of cell) ≡ needs
+    pub long : cell_header ≤ length cell
+    pub few : needs.numbers ≤ max_size s + 4
+    pub numbers_room : needs.numbers ≤ numbers
+    pub bytes_room : needs.size ≤ bytes
 
-  pub admission : {needs : ValueNeeds} → IsPageSize s → answer needs ≡ admitted_needs s numbers bytes cell → Admission needs
+  pub admission : {needs : ValueCounts} → IsPageSize s → answer needs ≡ admitted_needs s numbers bytes cell → Admission needs
   unfolding admitted_needs admitted
   admission {needs} page e =
       let w = with_answer_answer (λ c. answer (needs_of s c)) (admitted s room cell) (sym e) in
@@ -78,20 +81,16 @@ module _ (s : ℕ) (cell : List ℕ) (numbers bytes : ℕ) where
       let z = check_answer (room x.0) 13 [] (answer x.0) y.1 in
       let cell-is : w.0 ≡ cell_of cell = sym (unanswer z.1) ∙ d.1 in
       let needs_are : needs_of s (cell_of cell) ≡ needs = ap (needs_of s) (sym cell-is) ∙ unanswer w.2 in
-      let size_is : (cell_of cell).size ≡ needs.size = ap (λ (n : ValueNeeds). n.size) needs_are in
-      let total_is : total_pages s (cell_of cell).size ≡ needs.total = ap (λ (n : ValueNeeds). n.total) needs_are in
+      let size_is : (cell_of cell).size ≡ needs.size = ap (λ (n : ValueCounts). n.size) needs_are in
+      let total_is : total_pages s (cell_of cell).size ≡ needs.numbers = ap (λ (n : ValueCounts). n.numbers) needs_are in
       let both = and-true (numbers_room s numbers (cell_of cell)) (bytes_room bytes (cell_of cell)) (ap room (sym d.1) ∙ z.0) in
       record {
         is = w.1 ∙ ap answer cell-is;
-        celled = λ table long. record {
-          needs_are = needs_are;
-          long = omega (arith, d.0.long);
-          walkable = record {
-            few = omega (arith, total_few (cell_of cell).size page d.0.few, total_is);
-            room = omega (arith, leb-true (total_pages s (cell_of cell).size) numbers both.0, total_is, long);
-          };
-        };
-        value = omega (arith, leb-true (cell_of cell).size bytes both.1, size_is);
+        needs_are = needs_are;
+        long = omega (arith, d.0.long);
+        few = omega (arith, total_few (cell_of cell).size page d.0.few, total_is);
+        numbers_room = omega (arith, leb-true (total_pages s (cell_of cell).size) numbers both.0, total_is);
+        bytes_room = omega (arith, leb-true (cell_of cell).size bytes both.1, size_is);
       }
 
 -- where there is room for the largest value, no room is asked for the bytes

@@ -7,15 +7,15 @@ use mathlib.Core.Path.{◌≡◌, ap, sym, ◌∙◌}
 use mathlib.Core.Bool.{◌&&◌}
 use mathlib.Core.List.{List, [], ◌++◌, append-nil, Memᴰ}
 use lib.Dec.{leb, eqb}
-use lib.ListN.{length, get_or, take, drop, length-append}
-use lib.Seq.{sets, get_or-append-add, take_all, take_at, drop_at}
+use lib.ListN.{length, get_or, take, drop, length-append, length-drop}
+use lib.Seq.{sets, get_or-append-add, length-take-le, take_at, drop_at}
 use borrow.Author.Tests.{le-leb, lt-leb, leb-true, eq-eqb}
 use Rattle.refusal.specs.Outcome.{answer, refused}
 use Rattle.refusal.specs.Effect.{effect}
 use Rattle.laws.proofs.Tests.{and-true}
 use Rattle.refusal.proofs.OutcomeLaws.{check_answer, with_answer_answer, with_answer_refused}
 use Rattle.page.specs.Bytes.{bytes_of, numbers_at, bytes_of_all}
-use Rattle.laws.proofs.SetsLaws.{sets-append}
+use Rattle.laws.proofs.SetsLaws.{sets-append, sets_whole}
 use Rattle.page.proofs.BytesLaws.{number_at_append-left, numbers_at_same, number_at_bytes_of, numbers_at-bytes_of_all, length_bytes_of, length-bytes_of_all}
 use Rattle.overflow.specs.Totals.{max_size}
 use Rattle.overflow.specs.Cells.{Cell, cell_with, hash_size, cell_header, cell_bytes, encode_cell, encode_cell_into, cell_size, cell_count, cell_of, decode_cell, CellCounts, cell_counts_of, cell_counts, decode_cell_into}
@@ -43,8 +43,8 @@ module _ (s size : ℕ) (hash numbers buffer : List ℕ) where
     -- the cell, written part by part
     pub cell-written : length hash ≡ hash_size → cell_header + 4 * length numbers ≤ length buffer → {a b d : List ℕ}
         → a ≡ sets buffer 0 (bytes_of 8 size)
-        → b ≡ sets a 8 (take hash_size (drop 0 hash))
-        → d ≡ sets b cell_header (bytes_of_all 4 (take (length numbers) (drop 0 numbers)))
+        → b ≡ sets a 8 hash
+        → d ≡ sets b cell_header (bytes_of_all 4 numbers)
         → effect (answer (cell_header + 4 * length numbers)) d ≡ encode_cell_into s (cell_with size hash numbers) buffer
     unfolding encode_cell_into encode_cell cell_bytes bytes_of
     cell-written long h {a} {b} {d} p q r =
@@ -52,9 +52,7 @@ module _ (s size : ℕ) (hash numbers buffer : List ℕ) where
         let A = bytes_of 8 size in
         let N = bytes_of_all 4 numbers in
         let parts = sets-append buffer 0 A (hash ++ N) ∙ sets-append (sets buffer 0 A) 8 hash N ∙ ap (λ (k : ℕ). sets (sets (sets buffer 0 A) 8 hash) (8 + k) N) long in
-        let all : take hash_size hash ≡ hash = take_all hash_size hash (omega arith) in
-        let every : take (length numbers) numbers ≡ numbers = take_all (length numbers) numbers (omega arith) in
-        let written : d ≡ sets buffer 0 (cell_bytes c) = r ∙ rw (q, p, all, every) (sym parts) in
+        let written : d ≡ sets buffer 0 (cell_bytes c) = r ∙ rw (q, p) (sym parts) in
         rw (written, le-leb size (max_size s) few, le-leb (cell_header + 4 * length numbers) (length buffer) h, length-cell_bytes c long)
 
 -- ---- in
@@ -101,12 +99,13 @@ module _ (s : ℕ) (b : List ℕ) where
     unfolding decode_cell_into
     into-refused e = rw (not_decoded e)
 
-    -- a cell's hash is put there
-    pub into-decoded : {k : CellCounts} → answer k ≡ cell_counts s b → {h : List ℕ} → h ≡ sets hash 0 (take hash_size (drop 8 b)) → effect (answer k) h ≡ decode_cell_into s b hash
+    -- a cell's hash is put there, and takes all places
+    pub into-decoded : {k : CellCounts} → answer k ≡ cell_counts s b → length hash ≡ hash_size → {h : List ℕ} → h ≡ take hash_size (drop 8 b) → effect (answer k) h ≡ decode_cell_into s b hash
     unfolding decode_cell_into cell_of
-    into-decoded e f =
+    into-decoded e whole f =
         let d = decoding e in
-        rw (d.read, ← d.counts, f)
+        let long : length (take hash_size (drop 8 b)) ≡ hash_size = length-take-le hash_size (drop 8 b) (omega (arith, d.long, length-drop 8 b)) in
+        rw (d.read, ← d.counts, f, sets_whole hash (take hash_size (drop 8 b)) (omega arith))
 
 -- ---- what is encoded is decoded again
 

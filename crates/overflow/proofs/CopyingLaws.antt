@@ -6,7 +6,7 @@ use mathlib.Core.List.{List, [], ◌∷◌, ◌++◌, append_assoc, append-nil}
 use native.Mathlib.Numerals.{add-one}
 use native.Mathlib.Omega.{arith}
 use lib.ListN.{length, get_or, take, drop, length-append}
-use lib.Seq.{sets, length-sets, take-add, take-suc, take-length}
+use lib.Seq.{sets, length-sets, take-add, take-suc, take-length, take_all}
 use Rattle.page.specs.Pages.{page_at}
 use Rattle.laws.proofs.SetsLaws.{sets-append}
 use Rattle.overflow.specs.ValuePages.{value_bytes}
@@ -30,35 +30,34 @@ module _ (s : ℕ) (store : List ℕ) where
       rw (take-add i d ps, value_bytes_of_append (take i ps) (take d (drop i ps))) (omega (arith, length-append (value_bytes_of s store (take i ps)) (value_bytes_of s store (take d (drop i ps)))))
 
 -- where the copying stands after i pages
-pub record Copying (s : ℕ) (store numbers : List ℕ) (total : ℕ) (value₀ value : List ℕ) (i at : ℕ) : Type 0 where
-  pub few : i ≤ total
+pub record Copying (s : ℕ) (store numbers value₀ value : List ℕ) (i at : ℕ) : Type 0 where
   pub at_is : length (value_bytes_of s store (take i numbers)) ≡ at
   pub long : length value ≡ length value₀
   pub value_is : value ≡ sets value₀ 0 (value_bytes_of s store (take i numbers))
 
-pub copying_start : (s : ℕ) (store numbers : List ℕ) (total : ℕ) (value : List ℕ) → Copying s store numbers total value value 0 0
+pub copying_start : (s : ℕ) (store numbers value : List ℕ) → Copying s store numbers value value 0 0
 unfolding value_bytes_of
-copying_start s store numbers total value = record { few = omega arith; at_is = refl; long = refl; value_is = refl }
+copying_start s store numbers value = record { at_is = refl; long = refl; value_is = refl }
 
 -- what is copied next, the bytes b, and what stands in the buffer then
-pub record Copied (s : ℕ) (store numbers : List ℕ) (total : ℕ) (value₀ value : List ℕ) (i at : ℕ) (b : List ℕ) : Type 0 where
+pub record Copied (s : ℕ) (store numbers value₀ value : List ℕ) (i at : ℕ) (b : List ℕ) : Type 0 where
   pub room : at + length b ≤ length value
-  pub next : (written : List ℕ) → written ≡ sets value at (take (length b) (drop 0 b)) → Copying s store numbers total value₀ written (i + 1) (at + length b)
+  pub next : (written : List ℕ) → written ≡ sets value at b → Copying s store numbers value₀ written (i + 1) (at + length b)
 
-module _ {s : ℕ} {store numbers : List ℕ} {total : ℕ} {value₀ value : List ℕ} {i at : ℕ}
-    (can : Copyable s store total numbers value₀) (k : Copying s store numbers total value₀ value i at) (h : i < total) where
-  pub copied : {page b : List ℕ} → page ≡ page_at s store (get_or numbers i 0) → b ≡ value_bytes page → Copied s store numbers total value₀ value i at b
-  copied {page} {b} found held =
-      let bytes : b ≡ value_bytes (page_at s store (get_or numbers i 0)) = held ∙ ap value_bytes found in
+module _ {s : ℕ} {store numbers value₀ value : List ℕ} {i at : ℕ}
+    (can : Copyable s store numbers value₀) (k : Copying s store numbers value₀ value i at) (h : i < length numbers) where
+  pub copied : {page p b : List ℕ} → page ≡ page_at s store (get_or numbers i 0) → p ≡ page → b ≡ value_bytes p → Copied s store numbers value₀ value i at b
+  copied {b = b} found ref held =
+      let bytes : b ≡ value_bytes (page_at s store (get_or numbers i 0)) = held ∙ ap value_bytes (ref ∙ found) in
       let before = value_bytes_of s store (take i numbers) in
-      let more : value_bytes_of s store (take (i + 1) numbers) ≡ before ++ b = rw (add-one, bytes) (value_bytes_of_more s store numbers i (omega (arith, can.lent))) in
+      let more : value_bytes_of s store (take (i + 1) numbers) ≡ before ++ b = rw (add-one, bytes) (value_bytes_of_more s store numbers i h) in
       let at_next : length (value_bytes_of s store (take (i + 1) numbers)) ≡ at + length b = rw (more, length-append before b, k.at_is) in
-      let sum : i + 1 + (total - (i + 1)) ≡ total = omega arith in
-      let all : length (value_bytes_of s store (take (i + 1) numbers)) ≤ length (value_bytes_of s store (take total numbers)) = rw sum at (value_bytes_of_few s store numbers (i + 1) (total - (i + 1))) in
+      let sum : i + 1 + (length numbers - (i + 1)) ≡ length numbers = omega arith in
+      let all : length (value_bytes_of s store (take (i + 1) numbers)) ≤ length (value_bytes_of s store numbers) =
+      rw (sum, take-length numbers) at (value_bytes_of_few s store numbers (i + 1) (length numbers - (i + 1))) in
       record {
         room = omega (arith, k.long, can.room);
-        next = λ written e. let set : written ≡ sets value at b = rw (take-length b) at e in record {
-          few = omega arith;
+        next = λ written set. record {
           at_is = at_next;
           long = ap length set ∙ length-sets value at b ∙ k.long;
           value_is = rw (more, sets-append value₀ 0 before b, ← k.value_is, zero_plus before, k.at_is) set;
@@ -69,8 +68,7 @@ module _ {s : ℕ} {store numbers : List ℕ} {total : ℕ} {value₀ value : Li
       zero_plus l = omega arith
 
 -- all pages are copied
-pub copying_done : {s : ℕ} {store numbers : List ℕ} {total : ℕ} {value₀ value : List ℕ} {i at : ℕ} → Copying s store numbers total value₀ value i at → total ≤ i
-    → value ≡ sets value₀ 0 (value_bytes_of s store (take total numbers))
-copying_done {s} {store} {numbers} {total} {value₀} {i = i} k h =
-    let e : i ≡ total = omega (arith, k.few) in
-    k.value_is ∙ ap (λ (j : ℕ). sets value₀ 0 (value_bytes_of s store (take j numbers))) e
+pub copying_done : {s : ℕ} {store numbers value₀ value : List ℕ} {i at : ℕ} → Copying s store numbers value₀ value i at → length numbers ≤ i
+    → value ≡ sets value₀ 0 (value_bytes_of s store numbers)
+copying_done {s} {store} {numbers} {value₀} {i = i} k h =
+    k.value_is ∙ ap (λ (ns : List ℕ). sets value₀ 0 (value_bytes_of s store ns)) (take_all i numbers h)

@@ -3,7 +3,6 @@ pub mod TotalsLaws
 pub mod LayoutLaws
 pub mod ValuePagesLaws
 pub mod WithinLaws
-pub mod PageRefs
 pub mod ChunkLaws
 pub mod CellsLaws
 pub mod WalkLaws

@@ -1,10 +1,11 @@
 -- The walk over the pages of a value: one page, one step, and a walk that has ended.
 -- A step is a case of the definition; a walk that has ended is taken apart page by page.
-use Prim.Native.Nat.{ℕ, zero, suc, ◌+◌, ◌*◌, ◌<◌, ◌≤◌}
+use Prim.Native.Nat.{ℕ, zero, suc, ◌+◌, ◌*◌, ◌/◌, ◌<◌, ◌≤◌}
 use mathlib.Core.Path.{◌≡◌, refl, sym, ◌∙◌, ap}
 use mathlib.Core.Bool.{Bool, false, ◌&&◌, cond}
 use mathlib.Core.List.{List, [], ◌∷◌, ◌++◌, append-nil, append_assoc}
-use native.Mathlib.Nat.{le_of_suc-le-suc, not-suc-le-zero}
+use native.Mathlib.Nat.{le_of_suc-le-suc, not-suc-le-zero, div-zero}
+use native.Mathlib.Decide.{dec_lt}
 use native.Mathlib.Omega.{arith}
 use borrow.Author.Tests.{lt-ltb, le-leb, ltb-true, leb-true}
 use lib.Dec.{leb, ltb}
@@ -12,15 +13,14 @@ use lib.ListN.{length, get_or, take, drop, length-append, length-drop, get_or-ap
 use lib.Seq.{length-take-le, drop-cons}
 use Rattle.refusal.specs.Outcome.{Outcome, answer, refused, check}
 use Rattle.refusal.proofs.OutcomeLaws.{unanswer, check_answer, with_answer_answer}
-use Rattle.page.specs.PageSize.{IsPageSize}
 use Rattle.page.specs.Pages.{page_count, page_at}
 use Rattle.page.proofs.BytesLaws.{length-numbers_at}
-use Rattle.page.proofs.PageSizeLaws.{page_least}
 use Rattle.page.proofs.PagesLaws.{page_within_lem, length-page_at}
 use Rattle.overflow.specs.Totals.{body}
-use Rattle.overflow.specs.ValuePages.{number_count, byte_count, value_numbers, value_bytes}
+use Rattle.overflow.specs.ValuePages.{number_count, byte_count, value_numbers, value_bytes, numbers_within, bytes_within}
 use Rattle.overflow.specs.Reading.{Source, in_store, parse_page, Found, with_page, Walked, ended, onward, walk}
 use Rattle.overflow.specs.Steps.{value_bytes_of}
+use Rattle.overflow.proofs.WithinLaws.{number_count_within, number_count_past, byte_count_within, byte_count_past}
 
 -- ---- one page
 
@@ -37,10 +37,25 @@ unfolding value_numbers
 length-value_numbers b = length-numbers_at 4 b 4 (number_count b)
 
 -- the value bytes of a page that fits are as many as it says
-pub length-value_bytes : {s : ℕ} (b : List ℕ) → IsPageSize s → length b ≡ s → Fits s b → length (value_bytes b) ≡ byte_count b
+pub length-value_bytes : {s : ℕ} (b : List ℕ) → length b ≡ s → Fits s b → length (value_bytes b) ≡ byte_count b
 unfolding value_bytes
-length-value_bytes b size long fits =
-    length-take-le (byte_count b) (drop (4 + 4 * number_count b) b) (omega (arith, page_least size, length-drop (4 + 4 * number_count b) b))
+length-value_bytes b long fits =
+    length-take-le (byte_count b) (drop (4 + 4 * number_count b) b) (omega (arith, length-drop (4 + 4 * number_count b) b))
+
+-- and such a page has its header
+pub fitting_numbers : {s : ℕ} (b : List ℕ) → length b ≡ s → Fits s b → numbers_within b ≡ number_count b
+fitting_numbers b long fits = by_header (dec_lt (length b) 4)
+  where
+    by_header : Dec (length b < 4) → numbers_within b ≡ number_count b
+    by_header (yes h) = omega (arith, number_count_past b h)
+    by_header (no h) = number_count_within b (omega arith)
+
+pub fitting_bytes : {s : ℕ} (b : List ℕ) → length b ≡ s → Fits s b → bytes_within b ≡ byte_count b
+fitting_bytes b long fits = by_header (dec_lt (length b) 4)
+  where
+    by_header : Dec (length b < 4) → bytes_within b ≡ byte_count b
+    by_header (yes h) = omega (arith, byte_count_past b h)
+    by_header (no h) = byte_count_within b (omega arith)
 
 module _ (s : ℕ) (source : Source) where
   -- a page that the walk accepts
@@ -98,11 +113,22 @@ module _ (s : ℕ) (store : List ℕ) where
       let x = check_answer (ltb p (page_count s store)) 15 (i ∷ []) (answer (page_at s store p)) e in
       (ltb-true p (page_count s store) x.0, unanswer x.1)
 
-  pub page_long : (p : ℕ) → IsPageSize s → p < page_count s store → length (page_at s store p) ≡ s
-  page_long p size h = length-page_at s store p (page_within_lem s store p (omega (arith, page_least size)) h)
+  -- a store has pages only at a size of one byte or more
+  some_size : (p : ℕ) → p < page_count s store → 0 < s
+  unfolding page_count
+  some_size p h = by_size (dec_lt 0 s)
+    where
+      by_size : Dec (0 < s) → 0 < s
+      by_size (yes some) = some
+      by_size (no none) =
+          let z : s ≡ 0 = omega arith in
+          absurd (omega (arith, ap (λ (k : ℕ). length store / k) z ∙ div-zero (length store)))
 
-  pub store_paged : IsPageSize s → Paged s (in_store s store)
-  store_paged size i p b e = let a = store_answer i p e in sym (ap length a.1) ∙ page_long p size a.0
+  pub page_long : (p : ℕ) → p < page_count s store → length (page_at s store p) ≡ s
+  page_long p h = length-page_at s store p (page_within_lem s store p (some_size p h) h)
+
+  pub store_paged : Paged s (in_store s store)
+  store_paged i p b e = let a = store_answer i p e in sym (ap length a.1) ∙ page_long p a.0
 
   -- what a reading walk has found: the numbers from i on are of pages of the store, and their bytes are those found
   pub record Visited (left i : ℕ) (f g : Found) : Type 0 where

@@ -1,9 +1,10 @@
 -- What bytes of any length say as a value page: bytes that reach as far as what is read, and bytes that do not.
 -- Each is one branch of the definition.
-use Prim.Native.Nat.{ℕ, ◌+◌, ◌*◌, ◌-◌, ◌<◌, ◌≤◌}
+use Prim.Native.Nat.{ℕ, ◌+◌, ◌*◌, ◌-◌, min, ◌<◌, ◌≤◌}
+use native.Mathlib.Decide.{dec_lt}
 use native.Mathlib.Omega.{arith}
-use mathlib.Core.Path.{◌≡◌, sym}
-use mathlib.Core.List.{List, []}
+use mathlib.Core.Path.{◌≡◌, sym, ◌∙◌}
+use mathlib.Core.List.{List}
 use lib.ListN.{length, take, drop, length-drop, drop_of_length-le}
 use lib.Seq.{take_all, take-nil}
 use borrow.Author.Tests.{le-leb, lt-leb}
@@ -35,18 +36,39 @@ module _ (b : List ℕ) where
   unfolding number_within
   number_past i h = rw (lt-leb (8 + 4 * i) (length b) h)
 
-  -- the value bytes: the page ends within its header, before their end, or not before
-  pub bytes_none : length b < 4 → [] ≡ value_bytes b
+  -- the counts where they are read
+  pub number_count_reads : {n : ℕ} → 4 ≤ length b → n ≡ number_at 2 b 0 → n ≡ numbers_within b
+  unfolding number_count
+  number_count_reads h e = e ∙ sym (number_count_within h)
+
+  pub byte_count_reads : {n : ℕ} → 4 ≤ length b → n ≡ number_at 2 b 2 → n ≡ bytes_within b
+  unfolding byte_count
+  byte_count_reads h e = e ∙ sym (byte_count_within h)
+
+  -- the value bytes, from the end of the numbers or of the page up to their own end or the page's
+  pub bytes_part : {n m start end : ℕ} → n ≡ numbers_within b → m ≡ bytes_within b → start ≡ min (4 + 4 * n) (length b) → end ≡ min (start + m) (length b)
+      → take (end - start) (drop start b) ≡ value_bytes b
   unfolding value_bytes
-  bytes_none h = sym (rw (drop_of_length-le b {i = 4 + 4 * number_count b} (omega arith)) (take-nil (byte_count b)))
+  bytes_part {n} {m} {start} {end} numbers bytes e f = by_header (dec_lt (length b) 4)
+    where
+      -- bytes that are past the page's end
+      none : (i j k l : ℕ) → length b ≤ i → length b ≤ k → take j (drop i b) ≡ take l (drop k b)
+      none i j k l h g = rw (drop_of_length-le b {i = i} h, drop_of_length-le b {i = k} g, take-nil j, take-nil l)
 
-  module _ {n m : ℕ} (numbers : n ≡ number_count b) (bytes : m ≡ byte_count b) where
-    pub bytes_cut : length b < 4 + 4 * n + m → drop (4 + 4 * n) b ≡ value_bytes b
-    unfolding value_bytes
-    bytes_cut h = rw (← numbers, ← bytes) (sym (take_all m (drop (4 + 4 * n) b) (omega (arith, length-drop (4 + 4 * n) b))))
+      by_end : n ≡ number_count b → m ≡ byte_count b → Dec (length b < 4 + 4 * n) → take (end - start) (drop start b) ≡ take (byte_count b) (drop (4 + 4 * number_count b) b)
+      by_end p q (yes h) = none start (end - start) (4 + 4 * number_count b) (byte_count b) (omega arith) (omega arith)
+      by_end p q (no h) =
+          let s : start ≡ 4 + 4 * n = omega arith in
+          rw (← p, ← q, s) (by_length (dec_lt (length b) (4 + 4 * n + m)) s)
+        where
+          by_length : Dec (length b < 4 + 4 * n + m) → start ≡ 4 + 4 * n → take (end - (4 + 4 * n)) (drop (4 + 4 * n) b) ≡ take m (drop (4 + 4 * n) b)
+          by_length (yes g) s =
+              let rest = drop (4 + 4 * n) b in
+              let long = length-drop (4 + 4 * n) b in
+              take_all (end - (4 + 4 * n)) rest (omega arith) ∙ sym (take_all m rest (omega arith))
+          by_length (no g) s = let d : end - (4 + 4 * n) ≡ m = omega arith in rw d
 
-    pub bytes_whole : take (4 + 4 * n + m - (4 + 4 * n)) (drop (4 + 4 * n) b) ≡ value_bytes b
-    unfolding value_bytes
-    bytes_whole =
-        let e : 4 + 4 * n + m - (4 + 4 * n) ≡ m = omega arith in
-        rw (e, numbers, bytes)
+      by_header : Dec (length b < 4) → take (end - start) (drop start b) ≡ take (byte_count b) (drop (4 + 4 * number_count b) b)
+      by_header (yes h) = none start (end - start) (4 + 4 * number_count b) (byte_count b) (omega (arith, number_count_past h)) (omega arith)
+      by_header (no h) =
+          by_end (numbers ∙ number_count_within (omega arith)) (bytes ∙ byte_count_within (omega arith)) (dec_lt (length b) (4 + 4 * n))

@@ -1,14 +1,14 @@
 -- Cells: size (8 bytes), hash (32, carried and not computed), numbers. The limit of the size may depend on the page size s.
-use Rattle.std.specs.Prelude.{ℕ, ◌+◌, ◌*◌, ◌-◌, ◌/◌, ◌%◌, ◌&&◌, List, [], ◌++◌, leb, eqb, length, take, drop}
+use Rattle.std.specs.Prelude.{ℕ, ◌+◌, ◌*◌, ◌-◌, ◌/◌, ◌%◌, ◌&&◌, List, [], ◌++◌, leb, eqb, length, take, drop, Result}
 use Rattle.std.proofs.lemmas.List.Edits.{sets}
 use Rattle.refusal.specs.Outcome.{Outcome, answer, check, with_answer}
 use Rattle.refusal.specs.Effect.{Effect, leaves}
-use Rattle.refusal.specs.Refusals.{refusal}
+use Rattle.refusal.specs.Refusals.{outcome}
+use Rattle.refusal.specs.declared.Refusal.{Refusal}
 use Rattle.page.specs.Bytes.{number_at, bytes_of, numbers_at, bytes_of_all}
 use Rattle.overflow.specs.Totals.{max_size}
 use Rattle.overflow.specs.Stored.{stored_in}
-use Rattle.overflow.specs.declared.cell.Decoded.{Decoded}
-use Rattle.overflow.specs.declared.cell.Decoded.TheVariants.{Cell as DecodedCell, Refused}
+use Rattle.overflow.specs.declared.cell.CellCounts.{CellCounts as CountsTold}
 
 pub record Cell : Type 0 where
   pub size : ℕ
@@ -78,6 +78,5 @@ unfoldable pub decode_cell_into : ℕ → List ℕ → List ℕ → Effect CellC
 decode_cell_into s b hash = leaves cell_counts_of (λ c. sets hash 0 c.hash) hash (decode_cell s b)
 
 -- what the code answers, as an outcome
-abbrev pub decoded_outcome : Decoded → Outcome CellCounts
-decoded_outcome (DecodedCell c) = answer (record { size = c.size; numbers = c.numbers })
-decoded_outcome (Refused r) = refusal r
+abbrev pub decoded_outcome : Result CountsTold Refusal → Outcome CellCounts
+decoded_outcome = outcome (λ c. record { size = c.size; numbers = c.numbers })

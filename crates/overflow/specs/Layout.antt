@@ -1,7 +1,6 @@
 -- What the pages of a value hold, at pages of s bytes: the numbers after the cell's fill pages in order, value bytes take the room left.
-use Rattle.std.specs.Prelude.{ℕ, zero, suc, ◌+◌, ◌*◌, ◌-◌, ◌/◌, min, List, take, drop}
+use Rattle.std.specs.Prelude.{ℕ, zero, suc, ◌+◌, ◌*◌, ◌-◌, ◌/◌, min}
 use Rattle.overflow.specs.Totals.{body, cell_numbers}
-use Rattle.overflow.specs.declared.value_page.Part.{Part}
 
 -- how many numbers a page holds at most
 abbrev pub numbers_per_page : ℕ → ℕ
@@ -26,17 +25,3 @@ bytes_before s total size (suc i) =
 
 unfoldable pub bytes_on : ℕ → ℕ → ℕ → ℕ → ℕ
 bytes_on s total size i = min (body s - 4 * numbers_on s total i) (size - bytes_before s total size i)
-
--- ---- the same as parts of the numbers and of the value
-
--- a part of a list
-abbrev pub part_of : Part → List ℕ → List ℕ
-part_of p xs = take p.count (drop p.from xs)
-
--- the numbers of page i; they begin within the list also where the cell has them all
-unfoldable pub numbers_part : ℕ → ℕ → ℕ → Part
-numbers_part s total i = record { from = min total cell_numbers + numbers_before s total i; count = numbers_on s total i }
-
--- the bytes of page i
-unfoldable pub bytes_part : ℕ → ℕ → ℕ → ℕ → Part
-bytes_part s total size i = record { from = bytes_before s total size i; count = bytes_on s total size i }

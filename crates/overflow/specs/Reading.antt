@@ -1,17 +1,15 @@
 -- Reading and deleting a value: a walk over its pages, whose numbers are queued from the cell and then from each page.
-use Rattle.std.specs.Prelude.{ℕ, zero, suc, ◌+◌, ◌*◌, Bool, true, false, ◌&&◌, cond, List, [], ◌∷◌, ◌++◌, leb, ltb, eqb, length, get_or, take}
+use Rattle.std.specs.Prelude.{ℕ, zero, suc, ◌+◌, ◌*◌, Bool, true, false, ◌&&◌, cond, List, [], ◌∷◌, ◌++◌, leb, ltb, eqb, length, get_or, take, Result}
 use Rattle.std.proofs.lemmas.List.Edits.{sets}
 use Rattle.refusal.specs.Outcome.{Outcome, answer, refused, check, with_answer}
 use Rattle.refusal.specs.Effect.{LentMut, Effect, effect, leaves}
-use Rattle.refusal.specs.Refusals.{refusal}
+use Rattle.refusal.specs.Refusals.{outcome}
+use Rattle.refusal.specs.declared.Refusal.{Refusal}
 use Rattle.page.specs.Pages.{page_count, page_at}
 use Rattle.overflow.specs.Totals.{body, total_pages}
 use Rattle.overflow.specs.ValuePages.{number_count, byte_count, value_numbers, value_bytes}
 use Rattle.overflow.specs.Cells.{Cell, decode_cell}
-use Rattle.overflow.specs.declared.read.ReadValue.{ReadValue}
-use Rattle.overflow.specs.declared.read.ReadValue.TheVariants.{Read, Refused as ReadRefused}
-use Rattle.overflow.specs.declared.delete.Deleted.{Deleted}
-use Rattle.overflow.specs.declared.delete.Deleted.TheVariants.{Numbers, Refused as DeleteRefused}
+use Rattle.overflow.specs.declared.walk.ValueCounts.{ValueCounts as CountsTold}
 
 -- ---- the walk
 
@@ -121,9 +119,8 @@ read_value_into s cell store lent =
     read_cell s store lent (admitted s (λ c. numbers_room s (length lent.numbers) c && bytes_room (length lent.value) c) cell)
 
 -- what the code answers, as an outcome
-abbrev pub read_outcome : ReadValue → Outcome ValueCounts
-read_outcome (Read v) = answer (record { size = v.size; numbers = v.numbers })
-read_outcome (ReadRefused r) = refusal r
+abbrev pub read_outcome : Result CountsTold Refusal → Outcome ValueCounts
+read_outcome = outcome (λ v. record { size = v.size; numbers = v.numbers })
 
 -- ---- deleting
 
@@ -143,6 +140,5 @@ delete_cell s store table (refused number values) = effect (refused number value
 unfoldable pub delete_into : ℕ → List ℕ → List ℕ → List ℕ → Effect ℕ (List ℕ)
 delete_into s cell store table = delete_cell s store table (admitted s (numbers_room s (length table)) cell)
 
-abbrev pub deleted_outcome : Deleted → Outcome ℕ
-deleted_outcome (Numbers n) = answer n
-deleted_outcome (DeleteRefused r) = refusal r
+abbrev pub deleted_outcome : Result ℕ Refusal → Outcome ℕ
+deleted_outcome = outcome (λ n. n)

@@ -1,9 +1,9 @@
 -- How many pages a value takes, at pages of s bytes.
-use Rattle.std.specs.Prelude.{ℕ, ◌+◌, ◌*◌, ◌-◌, ◌/◌, ◌^◌, min, ◌&&◌, ◌||◌, cond, [], leb, ltb}
+use Rattle.std.specs.Prelude.{ℕ, ◌+◌, ◌*◌, ◌-◌, ◌/◌, ◌^◌, min, ◌&&◌, ◌||◌, cond, [], leb, ltb, Result}
 use Rattle.refusal.specs.Outcome.{Outcome, answer, check}
-use Rattle.refusal.specs.Refusals.{refusal}
-use Rattle.overflow.specs.declared.total.Totalled.{Totalled}
-use Rattle.overflow.specs.declared.total.Totalled.TheVariants.{Pages, Refused}
+use Rattle.refusal.specs.Refusals.{outcome}
+use Rattle.refusal.specs.declared.Refusal.{Refusal}
+use Rattle.overflow.specs.declared.total.PageTotal.{PageTotal}
 
 -- the largest value: the same at all page sizes
 unfoldable pub max_size : ℕ → ℕ
@@ -47,6 +47,5 @@ unfoldable pub page_total : ℕ → ℕ → Outcome Total
 page_total s size = check (leb 1 size && leb size (max_size s)) 10 [] (answer (total_of s size (total_pages s size)))
 
 -- what the code answers, as an outcome
-abbrev pub total_outcome : Totalled → Outcome Total
-total_outcome (Pages t) = answer (record { total = t.total; cell = t.cell; spare = t.spare })
-total_outcome (Refused r) = refusal r
+abbrev pub total_outcome : Result PageTotal Refusal → Outcome Total
+total_outcome = outcome (λ t. record { total = t.total; cell = t.cell; spare = t.spare })

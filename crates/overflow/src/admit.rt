@@ -3,43 +3,34 @@ ghost use Rattle.std.specs.Prelude.{◌≡◌};
 ghost use Rattle.page.specs.PageSize.{IsPageSize};
 ghost use Rattle.overflow.specs.Steps.{admitted_needs, admitted_outcome};
 
-use crate::cell::{Decoded, cell_counts};
+use crate::cell::cell_counts;
 use crate::total::total_needed_pages;
+use crate::walk::ValueCounts;
+use page::store::Store;
 use refusal::Refusal;
 
-// What a value needs: the bytes of its buffer, and the places of its number table, one for each of its pages.
-#[derive(Clone, Copy)]
-pub(crate) struct ValueNeeds {
-    pub size: usize,
-    pub total: usize,
-}
-
-#[derive(Clone, Copy)]
-pub(crate) enum Admitted {
-    Value(ValueNeeds),
-    Refused(Refusal),
-}
-
-// What a cell's value needs, where a value can have its size and there is room for so many numbers and bytes.
-pub(crate) fn admit(page_size: usize, cell: &[u8], numbers: usize, bytes: usize) -> Admitted
-    requires { IsPageSize page_size }
-    ensures { admitted_outcome result ≡ admitted_needs page_size numbers bytes cell.now }
+// The bytes of a cell's value and the numbers of its pages, where a value can have its size and there is room for so many numbers and
+// bytes.
+pub(crate) fn admit(
+    store: &Store,
+    cell: &[u8],
+    numbers: usize,
+    bytes: usize,
+) -> Result<ValueCounts, Refusal>
+    ensures needs { admitted_outcome result ≡ admitted_needs store.now.page_size numbers bytes cell.now }
+    ensures page_size { IsPageSize store.now.page_size }
 {
-    match cell_counts(page_size, cell) {
-        Decoded::Refused(r) => Admitted::Refused(r),
-        Decoded::Cell(c) => {
-            let size = c.size;
-            if size == 0 {
-                return Admitted::Refused(Refusal::Size);
-            }
-            let total = total_needed_pages(page_size, size);
-            if numbers < total {
-                return Admitted::Refused(Refusal::Room);
-            }
-            if bytes < size {
-                return Admitted::Refused(Refusal::Room);
-            }
-            Admitted::Value(ValueNeeds { size, total })
-        }
+    let page_size = store.page_size();
+    let size = cell_counts(page_size, cell)?.size;
+    if size == 0 {
+        return Err(Refusal::Size);
     }
+    let total = total_needed_pages(page_size, size);
+    if numbers < total || bytes < size {
+        return Err(Refusal::Room);
+    }
+    Ok(ValueCounts {
+        size,
+        numbers: total,
+    })
 }

@@ -8,7 +8,6 @@ pub mod chunk;
 pub mod delete;
 pub mod page_ref;
 pub mod read;
-pub mod stored;
 pub mod total;
 pub mod value_page;
 pub mod walk;

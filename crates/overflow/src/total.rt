@@ -1,9 +1,8 @@
 // How many pages a value takes.
 ghost use Rattle.std.specs.Prelude.{◌≡◌, ◌≤◌};
-ghost use Rattle.page.specs.PageSize.{IsPageSize, page_bytes};
+ghost use Rattle.page.specs.PageSize.{IsPageSize};
 ghost use Rattle.overflow.specs.Totals.{max_size, raw_pages, total_pages, spare_room, page_total, total_outcome};
 
-use page::least::least;
 use page::size::PageSize;
 use refusal::Refusal;
 
@@ -21,38 +20,32 @@ pub struct PageTotal {
     pub spare: usize,
 }
 
-#[derive(Clone, Copy)]
-pub enum Totalled {
-    Pages(PageTotal),
-    Refused(Refusal),
-}
-
 // The pages of a value, or refusal 10 for a size that no value has.
-pub fn page_total(page_size: PageSize, size: u64) -> Totalled
-    ensures { total_outcome result ≡ page_total (page_bytes page_size) size }
+pub fn page_total(page_size: PageSize, size: u64) -> Result<PageTotal, Refusal>
+    ensures { total_outcome result ≡ page_total page_size size }
 {
     let page_bytes = page_size.bytes();
-    if size == 0 {
-        return Totalled::Refused(Refusal::Size);
+    if size == 0 || (max_overflow_value_size(page_bytes) as u64) < size {
+        return Err(Refusal::Size);
     }
-    if (max_overflow_value_size(page_bytes) as u64) < size {
-        return Totalled::Refused(Refusal::Size);
-    }
-    let bytes = size as usize;
-    let total = total_needed_pages(page_bytes, bytes);
-    let cell = least(total, MAX_OVERFLOW_CELL_NODE_POINTERS);
-    let spare = spare_room(page_bytes, bytes, total);
-    Totalled::Pages(PageTotal { total, cell, spare })
+    let size = size as usize;
+    let total = total_needed_pages(page_bytes, size);
+    let cell = total.min(MAX_OVERFLOW_CELL_NODE_POINTERS);
+    let spare = spare_room(page_bytes, size, total);
+    Ok(PageTotal { total, cell, spare })
 }
 
 // The largest value at pages of `page_size` bytes: the same at all of them.
+#[tactic(auto, unfolding(crate::specs::Totals::max_size))]
 pub(crate) fn max_overflow_value_size(page_size: usize) -> usize
     ensures { result ≡ max_size page_size }
 {
     MAX_OVERFLOW_VALUE_SIZE
 }
 
-// How many pages of `page_size` bytes a value takes, with the numbers that the cell has no place for.
+// How many pages of `page_size` bytes a value takes, with the numbers that the cell has no place for. A store tells its page size as a
+// number, so this and what it calls take one and ask that it is a page size.
+#[tactic(auto, using(page::proofs::PageSizeLaws::page_least, crate::proofs::TotalsLaws::raw_facts), unfolding(crate::specs::Totals::total_pages))]
 pub(crate) fn total_needed_pages(page_size: usize, size: usize) -> usize
     requires { IsPageSize page_size × (size ≤ max_size page_size) }
     ensures { result ≡ total_pages page_size size }
@@ -72,6 +65,7 @@ pub(crate) fn total_needed_pages(page_size: usize, size: usize) -> usize
 }
 
 // What the pages of a value leave of their bodies, behind its bytes and the numbers that the cell has no place for.
+#[tactic(auto, using(page::proofs::PageSizeLaws::page_least), unfolding(crate::specs::Totals::spare_room))]
 fn spare_room(page_size: usize, size: usize, total: usize) -> usize
     requires { IsPageSize page_size × (size ≤ max_size page_size) × (total ≡ total_pages page_size size) }
     ensures { result ≡ spare_room page_size size total }
@@ -84,10 +78,10 @@ fn spare_room(page_size: usize, size: usize, total: usize) -> usize
 }
 
 // How many pages the bytes alone would take.
+#[tactic(auto, using(page::proofs::PageSizeLaws::page_least, crate::proofs::TotalsLaws::raw_is))]
 fn needed_pages(page_size: usize, size: usize) -> usize
     requires { IsPageSize page_size × (size ≤ max_size page_size) }
     ensures { result ≡ raw_pages page_size size }
 {
-    let body = page_size - 4;
-    (size + (body - 1)) / body
+    size.div_ceil(page_size - 4)
 }

@@ -1,15 +1,62 @@
--- `write_page` meets its contract: the parts are those of the definition, and fit the page.
-use Rattle.overflow.specs.Layout.{bytes_part}
-use Rattle.overflow.specs.ValuePages.{value_page}
+-- `write_page` meets its contract: the parts of the page lie within what is lent and fit the page, and are those of the definition.
+use Rattle.std.proofs.Common.{length}
 use Rattle.overflow.proofs.chunk.write_page.Goals as goal
-use mathlib.Core.Path.{refl, ◌∙◌}
-use Rattle.overflow.proofs.ChunkLaws.{encodable, same_numbers}
+use mathlib.Core.Path.{refl}
+use native.Mathlib.Omega.{arith}
+use lib.ListN.{length-take, length-drop}
+use Rattle.overflow.proofs.ChunkLaws.{page_parts, page_put}
 
-pub encode_value_page-requires : goal.encode_value_page-requires
-encode_value_page-requires c = (c.requires.0, rw (c.bytes_on-v.ensures, c.numbers_on-n.ensures) (encodable c.requires.0 c.requires.1 c.args.value.now c.args.numbers.now refl c.requires.2))
+pub overflow_add-cell : goal.overflow_add-cell
+overflow_add-cell c =
+    let p = page_parts (length c.args.value.now) c.args.index c.bytes-page_bytes.ensures.bytes c.bytes-page_bytes.ensures.size c.requires.inside c.min-cell.ensures c.numbers_before-from.ensures c.numbers_before-to.ensures c.bytes_before-start.ensures c.bytes_before-end.ensures in
+    omega (arith, c.well_formed)
+
+pub overflow_add-cell-2 : goal.overflow_add-cell-2
+overflow_add-cell-2 c =
+    let p = page_parts (length c.args.value.now) c.args.index c.bytes-page_bytes.ensures.bytes c.bytes-page_bytes.ensures.size c.requires.inside c.min-cell.ensures c.numbers_before-from.ensures c.numbers_before-to.ensures c.bytes_before-start.ensures c.bytes_before-end.ensures in
+    omega (arith, c.well_formed)
+
+pub offset_bounds-numbers-cell : goal.offset_bounds-numbers-cell
+offset_bounds-numbers-cell c =
+    let p = page_parts (length c.args.value.now) c.args.index c.bytes-page_bytes.ensures.bytes c.bytes-page_bytes.ensures.size c.requires.inside c.min-cell.ensures c.numbers_before-from.ensures c.numbers_before-to.ensures c.bytes_before-start.ensures c.bytes_before-end.ensures in
+    omega (arith, c.well_formed)
+
+pub slice_bounds-encode_value_page-count : goal.slice_bounds-encode_value_page-count
+slice_bounds-encode_value_page-count c =
+    let p = page_parts (length c.args.value.now) c.args.index c.bytes-page_bytes.ensures.bytes c.bytes-page_bytes.ensures.size c.requires.inside c.min-cell.ensures c.numbers_before-from.ensures c.numbers_before-to.ensures c.bytes_before-start.ensures c.bytes_before-end.ensures in
+    omega (arith, c.well_formed)
+
+pub slice_bounds-encode_value_page-start : goal.slice_bounds-encode_value_page-start
+slice_bounds-encode_value_page-start c =
+    let p = page_parts (length c.args.value.now) c.args.index c.bytes-page_bytes.ensures.bytes c.bytes-page_bytes.ensures.size c.requires.inside c.min-cell.ensures c.numbers_before-from.ensures c.numbers_before-to.ensures c.bytes_before-start.ensures c.bytes_before-end.ensures in
+    omega (arith, c.well_formed)
+
+pub slice_bounds-encode_value_page-end : goal.slice_bounds-encode_value_page-end
+slice_bounds-encode_value_page-end c =
+    let p = page_parts (length c.args.value.now) c.args.index c.bytes-page_bytes.ensures.bytes c.bytes-page_bytes.ensures.size c.requires.inside c.min-cell.ensures c.numbers_before-from.ensures c.numbers_before-to.ensures c.bytes_before-start.ensures c.bytes_before-end.ensures in
+    omega (arith, c.well_formed)
+
+pub slice_bounds-encode_value_page-count-2 : goal.slice_bounds-encode_value_page-count-2
+slice_bounds-encode_value_page-count-2 c =
+    let p = page_parts (length c.args.value.now) c.args.index c.bytes-page_bytes.ensures.bytes c.bytes-page_bytes.ensures.size c.requires.inside c.min-cell.ensures c.numbers_before-from.ensures c.numbers_before-to.ensures c.bytes_before-start.ensures c.bytes_before-end.ensures in
+    omega (arith, c.well_formed)
+
+pub slice_bounds-encode_value_page-start-2 : goal.slice_bounds-encode_value_page-start-2
+slice_bounds-encode_value_page-start-2 c =
+    let p = page_parts (length c.args.value.now) c.args.index c.bytes-page_bytes.ensures.bytes c.bytes-page_bytes.ensures.size c.requires.inside c.min-cell.ensures c.numbers_before-from.ensures c.numbers_before-to.ensures c.bytes_before-start.ensures c.bytes_before-end.ensures in
+    omega (arith, c.well_formed)
+
+pub slice_bounds-encode_value_page-end-2 : goal.slice_bounds-encode_value_page-end-2
+slice_bounds-encode_value_page-end-2 c =
+    let p = page_parts (length c.args.value.now) c.args.index c.bytes-page_bytes.ensures.bytes c.bytes-page_bytes.ensures.size c.requires.inside c.min-cell.ensures c.numbers_before-from.ensures c.numbers_before-to.ensures c.bytes_before-start.ensures c.bytes_before-end.ensures in
+    omega (arith, c.well_formed)
+
+pub encode_value_page-requires-clause-fits : goal.encode_value_page-requires-clause-fits
+encode_value_page-requires-clause-fits c =
+    let p = page_parts (length c.args.value.now) c.args.index c.bytes-page_bytes.ensures.bytes c.bytes-page_bytes.ensures.size c.requires.inside c.min-cell.ensures c.numbers_before-from.ensures c.numbers_before-to.ensures c.bytes_before-start.ensures c.bytes_before-end.ensures in
+    simp (length-take, length-drop) (omega arith)
 
 pub returns : goal.returns
-unfolding value_page bytes_part
 returns c =
-    c.encode_value_page.ensures
-    ∙ rw (c.bytes_on-v.ensures, c.numbers_on-n.ensures, same_numbers c.requires.0 c.requires.1 c.args.numbers.now)
+    let p = page_parts (length c.args.value.now) c.args.index c.bytes-page_bytes.ensures.bytes c.bytes-page_bytes.ensures.size c.requires.inside c.min-cell.ensures c.numbers_before-from.ensures c.numbers_before-to.ensures c.bytes_before-start.ensures c.bytes_before-end.ensures in
+    page_put c.args.index c.bytes-page_bytes.ensures.bytes c.bytes-page_bytes.ensures.size c.args.value.now c.args.numbers.now c.args.page.now p refl c.requires.room c.encode_value_page.ensures

@@ -1,23 +1,37 @@
--- `delete` meets its contract: the cell is refused, or the numbers of its value are collected.
+-- `delete` meets its contract: the cell is refused, or one law for each way in which the walk comes out.
 use Rattle.overflow.proofs.delete.delete.Goals as goal
-use mathlib.Core.Path.{refl, sym, ap, ◌∙◌}
-use Rattle.overflow.specs.Steps.{admitted_outcome}
-use Rattle.overflow.proofs.TotalsLaws.{is_page-size}
+use mathlib.Core.Path.{sym}
+use native.Mathlib.Omega.{arith}
+use Rattle.std.proofs.lemmas.Result.{err_from_is_err_and}
 use Rattle.overflow.proofs.AdmitLaws.{admission}
-use Rattle.overflow.proofs.ReadLaws.{delete_refused, delete_admitted_lem}
+use Rattle.overflow.proofs.ReadLaws.{delete_refused, part_long, delete_stopped, delete-numbers, delete-all}
 
-pub admit-requires : goal.admit-requires
-admit-requires c = is_page-size _ c.bytes-page_bytes.ensures
+pub returns-in_err-needs : goal.returns-in_err-needs
+returns-in_err-needs c =
+    let p = err_from_is_err_and c.from_residual.result c.from_residual.ensures.1 in
+    rw (p.1, p.2) (delete_refused _ _ _ _ (rw (c.max_overflow_value_size-largest.ensures, c.page_size.ensures.size) at c.in_err-needs.ensures.needs))
 
-pub delete_pages-requires : goal.delete_pages-requires
-delete_pages-requires c = (is_page-size _ c.bytes-page_bytes.ensures, (admission _ _ _ _ (is_page-size _ c.bytes-page_bytes.ensures) c.in-Value.ensures).celled _ refl)
+pub slice_bounds-table-end : goal.slice_bounds-table-end
+slice_bounds-table-end c = (admission _ _ _ _ c.in_ok-needs.ensures.page_size c.in_ok-needs.ensures.needs).numbers_room
 
-pub returns-in-Refused : goal.returns-in-Refused
-returns-in-Refused c =
-    rw (← c.bytes-page_bytes.ensures)
-    (delete_refused _ _ _ _ (ap admitted_outcome (sym c.in-Refused.is) ∙ rw c.max_overflow_value_size-largest.ensures at c.admit.ensures))
+pub slice_bounds-table-end-2 : goal.slice_bounds-table-end-2
+slice_bounds-table-end-2 c = sym (part_long _ _ c.args.store.now.bytes _ (admission _ _ _ _ c.in_ok-needs.ensures.page_size c.in_ok-needs.ensures.needs))
 
-pub returns-in-Value : goal.returns-in-Value
-returns-in-Value c =
-    rw (← c.bytes-page_bytes.ensures)
-    (c.delete_pages.ensures ∙ delete_admitted_lem _ _ _ _ (rw c.max_overflow_value_size-largest.ensures at (admission _ _ _ _ (is_page-size _ c.bytes-page_bytes.ensures) c.in-Value.ensures)))
+pub walk-requires-clause-cell : goal.walk-requires-clause-cell
+walk-requires-clause-cell c = (admission _ _ _ _ c.in_ok-needs.ensures.page_size c.in_ok-needs.ensures.needs).long
+
+pub walk-requires-clause-few : goal.walk-requires-clause-few
+walk-requires-clause-few c =
+    let a = admission _ _ _ _ c.in_ok-needs.ensures.page_size c.in_ok-needs.ensures.needs in
+    omega (arith, a.few, part_long _ _ c.args.store.now.bytes _ a)
+
+pub returns-in_err-found : goal.returns-in_err-found
+returns-in_err-found c =
+    let p = err_from_is_err_and c.from_residual-in_err-found.result c.from_residual-in_err-found.ensures.1 in
+    rw (p.1, p.2) (delete_stopped _ _ _ _ (admission _ _ _ _ c.in_ok-needs.ensures.page_size c.in_ok-needs.ensures.needs) (rw c.page_size.ensures.size at c.max_overflow_value_size-largest.ensures) c.in_err-found.ensures)
+
+pub returns-then-found-needs : goal.returns-then-found-needs
+returns-then-found-needs c = delete-numbers _ _ _ _ (admission _ _ _ _ c.in_ok-needs.ensures.page_size c.in_ok-needs.ensures.needs) (rw c.page_size.ensures.size at c.max_overflow_value_size-largest.ensures) c.in_ok-found.ensures c.if-found-needs.true
+
+pub returns : goal.returns
+returns c = delete-all _ _ _ _ (admission _ _ _ _ c.in_ok-needs.ensures.page_size c.in_ok-needs.ensures.needs) (rw c.page_size.ensures.size at c.max_overflow_value_size-largest.ensures) c.in_ok-found.ensures c.if-found-needs.false
