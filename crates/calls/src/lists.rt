@@ -4,6 +4,7 @@ ghost use Rattle.calls.specs.Lists.{ReadsList};
 
 use crate::told::{Told, report};
 use free_list::read::{ListCounts, Reading, read};
+use free_list::tables::Tables;
 use page::number::PageNumber;
 use page::size::PageSize;
 use page::store::Store;
@@ -29,5 +30,5 @@ pub fn read_list(
     ensures { ReadsList page_size store head pages entries out result }
 {
     let store = Store::new(page_size, store);
-    report(read(&store, Reading::Strict, PageNumber(head), pages, entries), out)
+    report(read(&store, Reading::Strict, PageNumber(head), Tables { pages, entries }), out)
 }

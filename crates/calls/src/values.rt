@@ -6,7 +6,8 @@ use crate::told::{Told, report, status};
 use overflow::cell::CellCounts;
 use overflow::chunk::chunk;
 use overflow::delete::delete;
-use overflow::read::{ValueCounts, read};
+use overflow::read::read;
+use overflow::walk::ValueCounts;
 use page::size::PageSize;
 use page::store::Store;
 
