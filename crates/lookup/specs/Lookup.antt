@@ -1,12 +1,13 @@
 -- Page lookup: a number is sought among the pending pages of a save, then in the store.
 --
 -- The pending pages lie one after another: the page of the number at place i is the s bytes from s * i.
-use Rattle.std.specs.Prelude.{ℕ, suc, ◌*◌, ◌||◌, cond, List, [], ◌∷◌, leb, ltb, eqb, length, take, drop}
+use Rattle.std.specs.Prelude.{ℕ, suc, ◌*◌, ◌||◌, cond, List, [], ◌∷◌, leb, ltb, eqb, length, take, drop, Result}
 use Rattle.refusal.specs.Outcome.{Outcome, answer, refused, check}
-use Rattle.refusal.specs.Refusals.{refusal}
+use Rattle.refusal.specs.Refusals.{outcome}
+use Rattle.refusal.specs.declared.Refusal.{Refusal}
 use Rattle.page.specs.Pages.{page_count}
-use Rattle.lookup.specs.declared.find.Located.{Located}
-use Rattle.lookup.specs.declared.find.Located.TheVariants.{Pending, Store, Refused}
+use Rattle.lookup.specs.declared.find.Place.{Place as PlaceTold}
+use Rattle.lookup.specs.declared.find.Place.TheVariants.{Pending, Store}
 
 -- the place of the first number that is the page, or the list's length
 unfoldable pub first_of : ℕ → List ℕ → ℕ
@@ -40,7 +41,9 @@ unfoldable pub lookup : ℕ → List ℕ → List ℕ → List ℕ → ℕ → L
 lookup s numbers pending store page = bytes_at s pending store (find s numbers pending store page)
 
 -- what the code answers, as an outcome
-abbrev pub find_outcome : Located → Outcome Place
-find_outcome (Pending at) = answer (pending_at at)
-find_outcome (Store at) = answer (store_at at)
-find_outcome (Refused r) = refusal r
+abbrev pub place_told : PlaceTold → Place
+place_told (Pending at) = pending_at at
+place_told (Store at) = store_at at
+
+abbrev pub find_outcome : Result PlaceTold Refusal → Outcome Place
+find_outcome = outcome place_told

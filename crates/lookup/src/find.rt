@@ -1,57 +1,51 @@
 // Where a page lies.
-ghost use Rattle.std.specs.Prelude.{◌≡◌};
-ghost use Rattle.page.specs.PageSize.{page_bytes};
-ghost use Rattle.lookup.specs.Lookup.{first_of, find, find_outcome};
+ghost use Rattle.std.specs.Prelude.{◌≡◌, ◌==◌, position};
+ghost use Rattle.lookup.specs.Lookup.{find, find_outcome};
 
 use page::number::PageNumber;
-use page::size::PageSize;
-use page::store::page_count;
+use page::store::Store;
 use refusal::Refusal;
 
-// The first byte of the page, in the pending pages or in the store, or a refusal.
+// The pending pages of a save: their numbers, and their bytes one page after another in the same order. Where a number stands there
+// twice, its first place counts.
 #[derive(Clone, Copy)]
-pub enum Located {
+pub struct Pending<'a> {
+    pub numbers: &'a [u32],
+    pub pages: &'a [u8],
+}
+
+impl<'a> Pending<'a> {
+    // The first place of a number, if it is there.
+    fn position(&self, number: u32) -> Option<usize>
+        ensures { result ≡ position (λ n. n == number) self.now.numbers.now }
+    {
+        self.numbers.iter().position(|n| *n == number)
+    }
+}
+
+// The first byte of a page, in the pending pages or in the store.
+#[derive(Clone, Copy)]
+pub enum Place {
     Pending(usize),
     Store(usize),
-    Refused(Refusal),
 }
 
 // Where the page lies. Refusal 9: fewer pending bytes than a page for each number. Refusal 15: the page is neither pending nor below
 // the store's page count. The room is tested by a quotient, since the product may not fit 64 bits.
-pub fn find(
-    page_size: PageSize,
-    numbers: &[u32],
-    pending: &[u8],
-    store: &[u8],
-    page: PageNumber,
-) -> Located
-    ensures { find_outcome result ≡ find (page_bytes page_size) numbers.now pending.now store.now page.0 }
+#[tactic(auto, using(crate::proofs::LookupLaws::page_some, crate::proofs::LookupLaws::find_short, crate::proofs::LookupLaws::find_pending, crate::proofs::LookupLaws::find_missing, crate::proofs::LookupLaws::find_stored))]
+pub fn find(store: &Store, pending: &Pending, page: PageNumber) -> Result<Place, Refusal>
+    ensures { find_outcome result ≡ find store.now.page_size pending.now.numbers.now pending.now.pages.now store.now.bytes page.0 }
 {
-    let page_bytes = page_size.bytes();
+    let page_size = store.page_size();
     let number = page.0;
-    if pending.len() / page_bytes < numbers.len() {
-        return Located::Refused(Refusal::Buffer);
+    if pending.pages.len() / page_size < pending.numbers.len() {
+        return Err(Refusal::Buffer);
     }
-    let at = position(numbers, number);
-    if at < numbers.len() {
-        return Located::Pending(page_bytes * at);
+    if let Some(i) = pending.position(number) {
+        return Ok(Place::Pending(page_size * i));
     }
-    if page_count(page_bytes, store) <= number {
-        return Located::Refused(Refusal::Missing(number as usize));
+    if store.page_count() <= number {
+        return Err(Refusal::Missing(number as usize));
     }
-    Located::Store(page_bytes * (number as usize))
-}
-
-// The place of the first number that is the page, or the length.
-fn position(numbers: &[u32], page: u32) -> usize
-    ensures { result ≡ first_of page numbers.now }
-{
-    let mut i = 0;
-    while i < numbers.len() {
-        if numbers[i] == page {
-            return i;
-        }
-        i += 1;
-    }
-    i
+    Ok(Place::Store(page_size * number as usize))
 }

@@ -1,32 +1,19 @@
 // The bytes of a page.
 ghost use Rattle.std.specs.Prelude.{◌≡◌};
-ghost use Rattle.page.specs.PageSize.{page_bytes};
 ghost use Rattle.lookup.specs.Lookup.{lookup};
 
-use crate::find::{Located, find};
+use crate::find::{Pending, Place, find};
 use page::number::PageNumber;
-use page::size::PageSize;
+use page::store::Store;
 
-// The page, as a part of one of the two lent slices; empty after a refusal, whose number `find` tells.
-pub fn lookup<'a>(
-    page_size: PageSize,
-    numbers: &[u32],
-    pending: &'a [u8],
-    store: &'a [u8],
-    page: PageNumber,
-) -> &'a [u8]
-    ensures { result.now ≡ lookup (page_bytes page_size) numbers.now pending.now store.now page.0 }
+// The page, as a part of the pending pages or of the store; empty after a refusal, whose number `find` tells.
+#[tactic(auto, using(crate::proofs::LookupLaws::pending_within, crate::proofs::LookupLaws::stored_within, crate::proofs::LookupLaws::lookup_pending, crate::proofs::LookupLaws::lookup_stored, crate::proofs::LookupLaws::lookup_refused))]
+pub fn lookup<'a>(store: &Store<'a>, pending: &Pending<'a>, page: PageNumber) -> &'a [u8]
+    ensures { result.now ≡ lookup store.now.page_size pending.now.numbers.now pending.now.pages.now store.now.bytes page.0 }
 {
-    let page_bytes = page_size.bytes();
-    match find(page_size, numbers, pending, store, page) {
-        Located::Pending(at) => {
-            let end = at + page_bytes;
-            &pending[at..end]
-        }
-        Located::Store(at) => {
-            let end = at + page_bytes;
-            &store[at..end]
-        }
-        Located::Refused(_) => &pending[..0],
+    match find(store, pending, page) {
+        Ok(Place::Pending(at)) => &pending.pages[at..at + store.page_size()],
+        Ok(Place::Store(_)) => store.page(page.0),
+        Err(_) => &[],
     }
 }
