@@ -36,25 +36,25 @@ module _ (s : ℕ) (cell : List ℕ) (numbers bytes : ℕ) where
     size_is : (cell_of cell).size ≡ k.size
     size_is = ap (λ (k : CellCounts). k.size) d.counts
 
-    pub decoded-few : k.size ≤ max_size s
-    decoded-few = omega (arith, size_is, d.few)
+    pub decoded_few : k.size ≤ max_size s
+    decoded_few = omega (arith, size_is, d.few)
 
-    pub admit-empty : k.size ≡ 0 → refused 10 [] ≡ admitted_needs s numbers bytes cell
+    pub admit_empty : k.size ≡ 0 → refused 10 [] ≡ admitted_needs s numbers bytes cell
     unfolding admitted_needs admitted
-    admit-empty z = rw (d.read, size_is, lt-leb 1 k.size (omega arith))
+    admit_empty z = rw (d.read, size_is, lt-leb 1 k.size (omega arith))
 
     module _ (some : k.size ≢ 0) {total : ℕ} (t : total ≡ total_pages s k.size) where
-      pub admit-numbers : numbers < total → refused 13 [] ≡ admitted_needs s numbers bytes cell
+      pub admit_numbers : numbers < total → refused 13 [] ≡ admitted_needs s numbers bytes cell
       unfolding admitted_needs admitted
-      admit-numbers h = rw (d.read, size_is, le-leb 1 k.size (omega arith), ← t, lt-leb total numbers h)
+      admit_numbers h = rw (d.read, size_is, le-leb 1 k.size (omega arith), ← t, lt-leb total numbers h)
 
-      pub admit-bytes : total ≤ numbers → bytes < k.size → refused 13 [] ≡ admitted_needs s numbers bytes cell
+      pub admit_bytes : total ≤ numbers → bytes < k.size → refused 13 [] ≡ admitted_needs s numbers bytes cell
       unfolding admitted_needs admitted
-      admit-bytes h b = rw (d.read, size_is, le-leb 1 k.size (omega arith), ← t, le-leb total numbers h, lt-leb k.size bytes b)
+      admit_bytes h b = rw (d.read, size_is, le-leb 1 k.size (omega arith), ← t, le-leb total numbers h, lt-leb k.size bytes b)
 
-      pub admit-all : total ≤ numbers → k.size ≤ bytes → answer (record { size = k.size; numbers = total }) ≡ admitted_needs s numbers bytes cell
+      pub admit_all : total ≤ numbers → k.size ≤ bytes → answer (record { size = k.size; numbers = total }) ≡ admitted_needs s numbers bytes cell
       unfolding admitted_needs admitted
-      admit-all h b = rw (d.read, size_is, le-leb 1 k.size (omega arith), ← t, le-leb total numbers h, le-leb k.size bytes b, ← t)
+      admit_all h b = rw (d.read, size_is, le-leb 1 k.size (omega arith), ← t, le-leb total numbers h, le-leb k.size bytes b, ← t)
 
   -- ---- what they tell
 

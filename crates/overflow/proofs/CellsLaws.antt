@@ -36,18 +36,18 @@ module _ (s size : ℕ) (hash numbers buffer : List ℕ) where
 
   module _ (few : size ≤ max_size s) where
     -- a buffer shorter than the cell
-    pub cell-short : length buffer < cell_header + 4 * length numbers → effect (refused 13 []) buffer ≡ encode_cell_into s (cell_with size hash numbers) buffer
+    pub cell_short : length buffer < cell_header + 4 * length numbers → effect (refused 13 []) buffer ≡ encode_cell_into s (cell_with size hash numbers) buffer
     unfolding encode_cell_into encode_cell
-    cell-short h = rw (le-leb size (max_size s) few, lt-leb (cell_header + 4 * length numbers) (length buffer) h)
+    cell_short h = rw (le-leb size (max_size s) few, lt-leb (cell_header + 4 * length numbers) (length buffer) h)
 
     -- the cell, written part by part
-    pub cell-written : length hash ≡ hash_size → cell_header + 4 * length numbers ≤ length buffer → {a b d : List ℕ}
+    pub cell_written : length hash ≡ hash_size → cell_header + 4 * length numbers ≤ length buffer → {a b d : List ℕ}
         → a ≡ sets buffer 0 (bytes_of 8 size)
         → b ≡ sets a 8 hash
         → d ≡ sets b cell_header (bytes_of_all 4 numbers)
         → effect (answer (cell_header + 4 * length numbers)) d ≡ encode_cell_into s (cell_with size hash numbers) buffer
     unfolding encode_cell_into encode_cell cell_bytes bytes_of
-    cell-written long h {a} {b} {d} p q r =
+    cell_written long h {a} {b} {d} p q r =
         let c = cell_with size hash numbers in
         let A = bytes_of 8 size in
         let N = bytes_of_all 4 numbers in
@@ -95,14 +95,14 @@ module _ (s : ℕ) (b : List ℕ) where
 
   module _ (hash : List ℕ) where
     -- a refusal leaves the hash
-    pub into-refused : {n : ℕ} {vs : List ℕ} → refused n vs ≡ cell_counts s b → effect (refused n vs) hash ≡ decode_cell_into s b hash
+    pub into_refused : {n : ℕ} {vs : List ℕ} → refused n vs ≡ cell_counts s b → effect (refused n vs) hash ≡ decode_cell_into s b hash
     unfolding decode_cell_into
-    into-refused e = rw (not_decoded e)
+    into_refused e = rw (not_decoded e)
 
     -- a cell's hash is put there, and takes all places
-    pub into-decoded : {k : CellCounts} → answer k ≡ cell_counts s b → length hash ≡ hash_size → {h : List ℕ} → h ≡ take hash_size (drop 8 b) → effect (answer k) h ≡ decode_cell_into s b hash
+    pub into_decoded : {k : CellCounts} → answer k ≡ cell_counts s b → length hash ≡ hash_size → {h : List ℕ} → h ≡ take hash_size (drop 8 b) → effect (answer k) h ≡ decode_cell_into s b hash
     unfolding decode_cell_into cell_of
-    into-decoded e whole f =
+    into_decoded e whole f =
         let d = decoding e in
         let long : length (take hash_size (drop 8 b)) ≡ hash_size = length-take-le hash_size (drop 8 b) (omega (arith, d.long, length-drop 8 b)) in
         rw (d.read, ← d.counts, f, sets_whole hash (take hash_size (drop 8 b)) (omega arith))

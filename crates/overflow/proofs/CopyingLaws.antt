@@ -6,7 +6,7 @@ use mathlib.Core.List.{List, [], ◌∷◌, ◌++◌, append_assoc, append-nil}
 use native.Mathlib.Numerals.{add-one}
 use native.Mathlib.Omega.{arith}
 use lib.ListN.{length, get_or, take, drop, length-append}
-use lib.Seq.{sets, length-sets, take-add, take-suc, take-length, take_all}
+use lib.Seq.{sets, length-sets, take-add, take-suc, take-length}
 use Rattle.page.specs.Pages.{page_at}
 use Rattle.laws.proofs.SetsLaws.{sets-append}
 use Rattle.overflow.specs.ValuePages.{value_bytes}
@@ -66,9 +66,3 @@ module _ {s : ℕ} {store numbers value₀ value : List ℕ} {i at : ℕ}
     where
       zero_plus : (l : List ℕ) → 0 + length l ≡ length l
       zero_plus l = omega arith
-
--- all pages are copied
-pub copying_done : {s : ℕ} {store numbers value₀ value : List ℕ} {i at : ℕ} → Copying s store numbers value₀ value i at → length numbers ≤ i
-    → value ≡ sets value₀ 0 (value_bytes_of s store numbers)
-copying_done {s} {store} {numbers} {value₀} {i = i} k h =
-    k.value_is ∙ ap (λ (ns : List ℕ). sets value₀ 0 (value_bytes_of s store ns)) (take_all i numbers h)

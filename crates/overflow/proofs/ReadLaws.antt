@@ -116,9 +116,9 @@ module _ (s : ℕ) (cell store numbers : List ℕ) {bytes : ℕ} {needs : ValueC
     unfolding read_value_into
     reading = rw (← all, a.is, total_is, size_is)
 
-    pub read-stopped : {left : List ℕ} {n : ℕ} {vs : List ℕ} → effect (refused n vs) left ≡ walk_into s store false (length part) cell part
+    pub read_stopped : {left : List ℕ} {n : ℕ} {vs : List ℕ} → effect (refused n vs) left ≡ walk_into s store false (length part) cell part
         → effect (refused n vs) (record { numbers = whole left; value = value }) ≡ read_value_into s cell store (record { numbers = numbers; value = value })
-    read-stopped e =
+    read_stopped e =
         rw (whole_is false e) (rw (stopped_value needs.numbers (walked false) (counts_are false e) needs.size) at reading)
 
     module _ {f : ValueCounts} {left : List ℕ} (e : effect (answer f) left ≡ walk_into s store false (length part) cell part) where
@@ -126,9 +126,9 @@ module _ (s : ℕ) (cell store numbers : List ℕ) {bytes : ℕ} {needs : ValueC
       w = ended_with needs.numbers (walked false) (counts_are false e)
 
       -- the numbers are not as many as they should be
-      pub read-numbers : f.numbers ≢ needs.numbers
+      pub read_numbers : f.numbers ≢ needs.numbers
           → effect (refused 17 []) (record { numbers = whole left; value = value }) ≡ read_value_into s cell store (record { numbers = numbers; value = value })
-      read-numbers ne =
+      read_numbers ne =
           let differ : length w.found.numbers ≢ needs.numbers = omega (arith, w.numbers_are) in
           rw (whole_is false e, w.ended_is) (rw (w.ended_is, ne_eqb (length w.found.numbers) needs.numbers differ) at reading)
 
@@ -137,9 +137,9 @@ module _ (s : ℕ) (cell store numbers : List ℕ) {bytes : ℕ} {needs : ValueC
         all_found = w.numbers_are ∙ many
 
         -- nor the bytes
-        pub read-bytes : f.size ≢ needs.size
+        pub read_bytes : f.size ≢ needs.size
             → effect (refused 18 []) (record { numbers = whole left; value = value }) ≡ read_value_into s cell store (record { numbers = numbers; value = value })
-        read-bytes ne =
+        read_bytes ne =
             let differ : length w.found.bytes ≢ needs.size = omega (arith, w.bytes_are) in
             rw (whole_is false e, w.ended_is) (rw (w.ended_is, eq-eqb (length w.found.numbers) needs.numbers all_found, ne_eqb (length w.found.bytes) needs.size differ) at reading)
 
@@ -190,12 +190,12 @@ module _ (s : ℕ) (cell store numbers : List ℕ) {bytes : ℕ} {needs : ValueC
       found : EndedWith needs.numbers (walked true) f
       found = ended_with needs.numbers (walked true) (counts_are true e)
 
-      pub delete-numbers : f.numbers ≢ needs.numbers → effect (refused 17 []) (whole left) ≡ delete_into s cell store numbers
-      delete-numbers ne =
+      pub delete_numbers : f.numbers ≢ needs.numbers → effect (refused 17 []) (whole left) ≡ delete_into s cell store numbers
+      delete_numbers ne =
           let differ : length found.found.numbers ≢ needs.numbers = omega (arith, found.numbers_are) in
           rw (whole_is true e, found.ended_is) (rw (found.ended_is, ne_eqb (length found.found.numbers) needs.numbers differ) at deleting)
 
-      pub delete-all : f.numbers ≡ needs.numbers → effect (answer needs.numbers) (whole left) ≡ delete_into s cell store numbers
-      delete-all all =
+      pub delete_all : f.numbers ≡ needs.numbers → effect (answer needs.numbers) (whole left) ≡ delete_into s cell store numbers
+      delete_all all =
           let same : length found.found.numbers ≡ needs.numbers = found.numbers_are ∙ all in
           rw (whole_is true e, found.ended_is) (rw (found.ended_is, eq-eqb (length found.found.numbers) needs.numbers same, same) at deleting)

@@ -65,14 +65,14 @@ get_d_queued t xs n i fits h k =
 -- ---- a page of a store, test by test, in the numbers of the code
 
 module _ (s : ℕ) (store : List ℕ) (total i known : ℕ) (table : List ℕ) where
-  pub visit-unknown : known ≤ i → effect (refused 14 (i ∷ [])) table ≡ visit_into s (in_store s store) total i known table
+  pub visit_unknown : known ≤ i → effect (refused 14 (i ∷ [])) table ≡ visit_into s (in_store s store) total i known table
   unfolding visit_into
-  visit-unknown h = rw (le-ltb i known h)
+  visit_unknown h = rw (le-ltb i known h)
 
   module _ (k : i < known) where
-    pub visit-missing : page_count s store ≤ get_or table i 0 → effect (refused 15 (i ∷ [])) table ≡ visit_into s (in_store s store) total i known table
+    pub visit_missing : page_count s store ≤ get_or table i 0 → effect (refused 15 (i ∷ [])) table ≡ visit_into s (in_store s store) total i known table
     unfolding visit_into parse_page in_store
-    visit-missing h = rw (lt-ltb i known k, le-ltb (get_or table i 0) (page_count s store) h)
+    visit_missing h = rw (lt-ltb i known k, le-ltb (get_or table i 0) (page_count s store) h)
 
     module _ (size : IsPageSize s) (inside : get_or table i 0 < page_count s store) {b : List ℕ} (is : b ≡ page_at s store (get_or table i 0))
         {n m : ℕ} (numbers : n ≡ numbers_within b) (bytes : m ≡ bytes_within b) where
@@ -85,17 +85,17 @@ module _ (s : ℕ) (store : List ℕ) (total i known : ℕ) (table : List ℕ) w
       bytes_are : byte_count (page_at s store (get_or table i 0)) ≡ m
       bytes_are = ap byte_count (sym is) ∙ sym (bytes ∙ byte_count_within b reaches)
 
-      pub visit-unfit : body s < 4 * n + m → effect (refused 16 (i ∷ [])) table ≡ visit_into s (in_store s store) total i known table
+      pub visit_unfit : body s < 4 * n + m → effect (refused 16 (i ∷ [])) table ≡ visit_into s (in_store s store) total i known table
       unfolding visit_into parse_page
-      visit-unfit h = rw (lt-ltb i known k, store_page s store i (get_or table i 0) inside, numbers_are, bytes_are, lt-leb (4 * n + m) (body s) h)
+      visit_unfit h = rw (lt-ltb i known k, store_page s store i (get_or table i 0) inside, numbers_are, bytes_are, lt-leb (4 * n + m) (body s) h)
 
       module _ (fits : 4 * n + m ≤ body s) where
-        pub visit-room : 4 + 4 * n ≤ length b
-        visit-room = omega (arith, ap length is, page_long s store (get_or table i 0) inside, page_least size)
+        pub visit_room : 4 + 4 * n ≤ length b
+        visit_room = omega (arith, ap length is, page_long s store (get_or table i 0) inside, page_least size)
 
-        pub visit-page : {next : List ℕ} → next ≡ sets table known (take (total - known) (numbers_at 4 b 4 n)) → effect (answer b) next ≡ visit_into s (in_store s store) total i known table
+        pub visit_page : {next : List ℕ} → next ≡ sets table known (take (total - known) (numbers_at 4 b 4 n)) → effect (answer b) next ≡ visit_into s (in_store s store) total i known table
         unfolding visit_into parse_page value_numbers
-        visit-page queued =
+        visit_page queued =
             rw (lt-ltb i known k, store_page s store i (get_or table i 0) inside, numbers_are, bytes_are, le-leb (4 * n + m) (body s) fits, queued, is, numbers_are)
 
 -- ---- the walk
@@ -202,10 +202,6 @@ pub record Walking (s : ℕ) (source : Source) (deleting : Bool) (known : ℕ) (
   pub numbers_few : f.numbers ≤ known + 65535 * i
   pub bytes_few : f.size ≤ 65535 * i
 
-pub walking_start : (s : ℕ) (source : Source) (deleting : Bool) (known : ℕ) (table : List ℕ) → Walking s source deleting known table table (start_counts known) 0
-walking_start s source deleting known table =
-    record { long = refl; rest = rw (sub-zero (length table)); numbers_few = omega arith; bytes_few = omega arith }
-
 module _ {s : ℕ} {source : Source} {deleting : Bool} {known : ℕ} {table₀ table : List ℕ} {f : ValueCounts} {i : ℕ}
     (w : Walking s source deleting known table₀ table f i) where
   -- no page is left
@@ -222,22 +218,22 @@ module _ {s : ℕ} {source : Source} {deleting : Bool} {known : ℕ} {table₀ t
         w.rest ∙ ap (λ (k : ℕ). walk_table s source deleting (length table₀) k i f table) one
 
     -- the next page stops the walk
-    pub walking-stopped : {next : List ℕ} {n : ℕ} {vs : List ℕ} → effect (refused n vs) next ≡ visit_into s source (length table) i f.numbers table
+    pub walking_stopped : {next : List ℕ} {n : ℕ} {vs : List ℕ} → effect (refused n vs) next ≡ visit_into s source (length table) i f.numbers table
         → effect (refused n vs) next ≡ walk_table s source deleting (length table₀) (length table₀) 0 (start_counts known) table₀
-    walking-stopped e = sym (rest_suc ∙ table_stop s source deleting (length table₀) (length table₀ - (i + 1)) i f table (rw w.long at e))
+    walking_stopped e = sym (rest_suc ∙ table_stop s source deleting (length table₀) (length table₀ - (i + 1)) i f table (rw w.long at e))
 
     module _ {b next : List ℕ} (e : effect (answer b) next ≡ visit_into s source (length table) i f.numbers table)
         {n m : ℕ} (numbers : n ≡ numbers_within b) (bytes : m ≡ bytes_within b) where
       -- the next page ends it
-      pub walking-ended : deleting && leb 1 m ≡ true
+      pub walking_ended : deleting && leb 1 m ≡ true
           → effect (answer (record { size = f.size + m; numbers = f.numbers + n })) next ≡ walk_table s source deleting (length table₀) (length table₀) 0 (start_counts known) table₀
-      walking-ended h =
+      walking_ended h =
           rw (numbers, bytes) (sym (rest_suc ∙ table_end s source deleting (length table₀) (length table₀ - (i + 1)) i f table (rw w.long at e) (rw bytes at h)))
 
       -- the next page is taken
-      pub walking-next : length next ≡ length table → n ≤ 65535 → m ≤ 65535 → deleting && leb 1 m ≡ false
+      pub walking_next : length next ≡ length table → n ≤ 65535 → m ≤ 65535 → deleting && leb 1 m ≡ false
           → Walking s source deleting known table₀ next (record { size = f.size + m; numbers = f.numbers + n }) (i + 1)
-      walking-next same few short h =
+      walking_next same few short h =
           record {
             long = same ∙ w.long;
             rest = rw (numbers, bytes) (rest_suc ∙ rw (← add-one i) at (table_step s source deleting (length table₀) (length table₀ - (i + 1)) i f table (rw w.long at e) (rw bytes at h)));

@@ -11,6 +11,7 @@ use refusal::Refusal;
 
 // The bytes of a cell's value and the numbers of its pages, where a value can have its size and there is room for so many numbers and
 // bytes.
+#[tactic(auto, using(crate::proofs::CellsLaws::decoding, crate::proofs::AdmitLaws::admit_undecoded, crate::proofs::AdmitLaws::decoded_few, crate::proofs::AdmitLaws::admit_empty))]
 pub(crate) fn admit(
     store: &Store,
     cell: &[u8],

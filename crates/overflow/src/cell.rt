@@ -18,6 +18,7 @@ pub struct CellCounts {
 }
 
 // Writes a cell to the start of the buffer, and answers how many bytes it has. After a refusal the buffer is as it was.
+#[tactic(auto, using(crate::proofs::CellsLaws::cell_large, crate::proofs::CellsLaws::cell_short))]
 pub fn encode_cell(
     page_size: PageSize,
     size: u64,
@@ -41,6 +42,7 @@ pub fn encode_cell(
 }
 
 // Reads a cell: its hash goes to the array, and its size and the count of its numbers are the answer. A refusal leaves the array.
+#[tactic(auto, using(crate::proofs::CellsLaws::decoding, crate::proofs::CellsLaws::into_refused, crate::proofs::CellsLaws::into_decoded))]
 pub fn decode_cell(
     page_size: PageSize,
     cell: &[u8],

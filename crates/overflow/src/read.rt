@@ -14,6 +14,7 @@ use refusal::Refusal;
 
 // Reads the value of a cell. The number table then holds the numbers of its pages, after a refusal in the walk those found before;
 // the value buffer is written only if all is well.
+#[tactic(auto, using(crate::proofs::AdmitLaws::admission, crate::proofs::ReadLaws::read_refused, crate::proofs::ReadLaws::part_long))]
 pub fn read(
     store: &Store,
     cell: &[u8],

@@ -1,29 +1,8 @@
 -- `delete` meets its contract: the cell is refused, or one law for each way in which the walk comes out.
 use Rattle.overflow.proofs.delete.delete.Goals as goal
-use mathlib.Core.Path.{sym}
-use native.Mathlib.Omega.{arith}
 use Rattle.std.proofs.lemmas.Result.{err_from_is_err_and}
 use Rattle.overflow.proofs.AdmitLaws.{admission}
-use Rattle.overflow.proofs.ReadLaws.{delete_refused, part_long, delete_stopped, delete-numbers, delete-all}
-
-pub returns-in_err-needs : goal.returns-in_err-needs
-returns-in_err-needs c =
-    let p = err_from_is_err_and c.from_residual.result c.from_residual.ensures.1 in
-    rw (p.1, p.2) (delete_refused _ _ _ _ (rw (c.max_overflow_value_size-largest.ensures, c.page_size.ensures.size) at c.in_err-needs.ensures.needs))
-
-pub slice_bounds-table-end : goal.slice_bounds-table-end
-slice_bounds-table-end c = (admission _ _ _ _ c.in_ok-needs.ensures.page_size c.in_ok-needs.ensures.needs).numbers_room
-
-pub slice_bounds-table-end-2 : goal.slice_bounds-table-end-2
-slice_bounds-table-end-2 c = sym (part_long _ _ c.args.store.now.bytes _ (admission _ _ _ _ c.in_ok-needs.ensures.page_size c.in_ok-needs.ensures.needs))
-
-pub walk-requires-clause-cell : goal.walk-requires-clause-cell
-walk-requires-clause-cell c = (admission _ _ _ _ c.in_ok-needs.ensures.page_size c.in_ok-needs.ensures.needs).long
-
-pub walk-requires-clause-few : goal.walk-requires-clause-few
-walk-requires-clause-few c =
-    let a = admission _ _ _ _ c.in_ok-needs.ensures.page_size c.in_ok-needs.ensures.needs in
-    omega (arith, a.few, part_long _ _ c.args.store.now.bytes _ a)
+use Rattle.overflow.proofs.ReadLaws.{delete_stopped, delete_numbers, delete_all}
 
 pub returns-in_err-found : goal.returns-in_err-found
 returns-in_err-found c =
@@ -31,7 +10,7 @@ returns-in_err-found c =
     rw (p.1, p.2) (delete_stopped _ _ _ _ (admission _ _ _ _ c.in_ok-needs.ensures.page_size c.in_ok-needs.ensures.needs) (rw c.page_size.ensures.size at c.max_overflow_value_size-largest.ensures) c.in_err-found.ensures)
 
 pub returns-then-found-needs : goal.returns-then-found-needs
-returns-then-found-needs c = delete-numbers _ _ _ _ (admission _ _ _ _ c.in_ok-needs.ensures.page_size c.in_ok-needs.ensures.needs) (rw c.page_size.ensures.size at c.max_overflow_value_size-largest.ensures) c.in_ok-found.ensures c.if-found-needs.true
+returns-then-found-needs c = delete_numbers _ _ _ _ (admission _ _ _ _ c.in_ok-needs.ensures.page_size c.in_ok-needs.ensures.needs) (rw c.page_size.ensures.size at c.max_overflow_value_size-largest.ensures) c.in_ok-found.ensures c.if-found-needs.true
 
 pub returns : goal.returns
-returns c = delete-all _ _ _ _ (admission _ _ _ _ c.in_ok-needs.ensures.page_size c.in_ok-needs.ensures.needs) (rw c.page_size.ensures.size at c.max_overflow_value_size-largest.ensures) c.in_ok-found.ensures c.if-found-needs.false
+returns c = delete_all _ _ _ _ (admission _ _ _ _ c.in_ok-needs.ensures.page_size c.in_ok-needs.ensures.needs) (rw c.page_size.ensures.size at c.max_overflow_value_size-largest.ensures) c.in_ok-found.ensures c.if-found-needs.false

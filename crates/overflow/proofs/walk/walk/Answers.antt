@@ -5,13 +5,13 @@ use native.Mathlib.Omega.{arith}
 use Rattle.std.proofs.lemmas.Result.{err_from_is_err_and}
 use Rattle.overflow.specs.Cells.{cell_count}
 use Rattle.overflow.proofs.TotalsLaws.{max_size_lem}
-use Rattle.overflow.proofs.TableLaws.{walk_whole, walking-stopped, walking-ended, walking-next, walking_done}
+use Rattle.overflow.proofs.TableLaws.{walk_whole, walking_stopped, walking_ended, walking_next, walking_done}
 
 pub returns-in_err-page : goal.returns-in_err-page
 unfolding cell_count
 returns-in_err-page c =
     let p = err_from_is_err_and c.from_residual.result c.from_residual.ensures.1 in
-    rw (p.1, p.2) (walking-stopped c.loop-i.invariant (omega arith) c.in_err-page.ensures ∙ walk_whole _ _ _ _ _ refl c.queue.ensures)
+    rw (p.1, p.2) (walking_stopped c.loop-i.invariant (omega arith) c.in_err-page.ensures ∙ walk_whole _ _ _ _ _ refl c.queue.ensures)
 
 pub overflow_add-found : goal.overflow_add-found
 overflow_add-found c = omega (arith, c.loop-i.invariant.bytes_few, c.requires.few, max_size_lem c.args.store.now.page_size)
@@ -22,12 +22,12 @@ overflow_add-found-in-loop-i c = omega (arith, c.well_formed, c.loop-i.invariant
 pub returns-then-ends_with : goal.returns-then-ends_with
 unfolding cell_count
 returns-then-ends_with c =
-    walking-ended c.loop-i.invariant (omega arith) c.in_ok-page.ensures c.number_count.ensures c.byte_count-bytes.ensures (sym c.ends_with.ensures ∙ c.if-ends_with.true)
+    walking_ended c.loop-i.invariant (omega arith) c.in_ok-page.ensures c.number_count.ensures c.byte_count-bytes.ensures (sym c.ends_with.ensures ∙ c.if-ends_with.true)
     ∙ walk_whole _ _ _ _ _ refl c.queue.ensures
 
 pub loop-i-preserved : goal.loop-i-preserved
 loop-i-preserved c =
-    walking-next c.loop-i.invariant (omega arith) c.in_ok-page.ensures c.number_count.ensures c.byte_count-bytes.ensures c.visit_page.auto.table (omega arith) (omega arith) (sym c.ends_with.ensures ∙ c.if-ends_with.false)
+    walking_next c.loop-i.invariant (omega arith) c.in_ok-page.ensures c.number_count.ensures c.byte_count-bytes.ensures c.visit_page.auto.table (omega arith) (omega arith) (sym c.ends_with.ensures ∙ c.if-ends_with.false)
 
 pub returns : goal.returns
 unfolding cell_count
