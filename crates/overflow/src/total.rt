@@ -31,7 +31,7 @@ pub fn page_total(page_size: PageSize, size: u64) -> Result<PageTotal, Refusal>
     let size = size as usize;
     let total = total_needed_pages(page_bytes, size);
     let cell = total.min(MAX_OVERFLOW_CELL_NODE_POINTERS);
-    let spare = spare_room(page_bytes, size, total);
+    let spare = spare_room(page_size, size, total);
     Ok(PageTotal { total, cell, spare })
 }
 
@@ -66,11 +66,12 @@ pub(crate) fn total_needed_pages(page_size: usize, size: usize) -> usize
 
 // What the pages of a value leave of their bodies, behind its bytes and the numbers that the cell has no place for.
 #[tactic(auto, using(page::proofs::PageSizeLaws::page_least), unfolding(crate::specs::Totals::spare_room))]
-fn spare_room(page_size: usize, size: usize, total: usize) -> usize
-    requires { IsPageSize page_size × (size ≤ max_size page_size) × (total ≡ total_pages page_size size) }
+fn spare_room(page_size: PageSize, size: usize, total: usize) -> usize
+    requires few { size ≤ max_size page_size }
+    requires pages { total ≡ total_pages page_size size }
     ensures { result ≡ spare_room page_size size total }
 {
-    let left = (page_size - 4) * total - size;
+    let left = (page_size.bytes() - 4) * total - size;
     if total <= MAX_OVERFLOW_CELL_NODE_POINTERS {
         return left;
     }

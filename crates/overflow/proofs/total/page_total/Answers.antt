@@ -16,4 +16,4 @@ returns-then-size-eq0 c = elim c.then-size-eq0.branch [
 pub returns : goal.returns
 unfolding page_total total_of
 returns c =
-    rw (le-leb 1 c.args.size (omega arith), ← c.bytes-page_bytes.ensures.bytes, ← c.max_overflow_value_size.ensures, le-leb _ _ c.if-max_overflow_value_size-size.false, ← c.total_needed_pages-total.ensures, c.min-cell.ensures, c.spare_room-spare.ensures)
+    rw (c.spare_room-spare.ensures, le-leb 1 c.args.size (omega arith), ← c.bytes-page_bytes.ensures.bytes, ← c.max_overflow_value_size.ensures, le-leb _ _ c.if-max_overflow_value_size-size.false, ← c.total_needed_pages-total.ensures, c.min-cell.ensures)
