@@ -1,15 +1,18 @@
--- The digits of a number are those that `io::decimal` makes; and how many there are, and how large the number is that digits write.
+-- The digits of a number are those that the library writes; and how many there are, and how large the number is that digits write.
 use Prim.Native.Nat.{ℕ, zero, suc, ◌+◌, ◌*◌, ◌-◌, ◌/◌, ◌%◌, ◌^◌, ◌≤◌, ◌<◌}
-use mathlib.Core.Path.{◌≡◌, refl, ap, ◌∙◌}
+use mathlib.Core.Path.{◌≡◌, refl, sym, ap, ◌∙◌}
 use mathlib.Core.Bool.{true}
 use mathlib.Core.List.{List, [], ◌∷◌, ◌++◌}
-use native.Mathlib.Nat.{add-zero, pow-suc, one-le-pow}
+use native.Mathlib.Nat.{add-zero, pow-suc}
+use native.Mathlib.Decide.{dec_lt}
 use native.Mathlib.Omega.{arith}
 use borrow.Author.Tests.{lt-ltb, le-ltb, leb-true}
 use lib.Dec.{leb, ltb}
 use lib.ListN.{length, length-append}
+use Rattle.std.specs.Char.{is_ascii_digit}
+use Rattle.std.specs.Fmt.{decimal}
+use Rattle.std.proofs.lemmas.Fmt.{decimal_digit, decimal_step}
 use Rattle.laws.proofs.Tests.{cond_cases, and-true}
-use Rattle.io.specs.Digits.{last_digits as digits, hex_digit_ascii, IsDigitCount}
 use Rattle.listing.specs.Decimal.{is_digit, all_digits, decimal_after, digits_up_to, digits_of}
 
 pub digit_range : (byte : ℕ) → is_digit byte ≡ true → (48 ≤ byte) × (byte ≤ 57)
@@ -18,8 +21,10 @@ digit_range byte e =
     let both = and-true (leb 48 byte) (leb byte 57) e in
     (leb-true 48 byte both.0, leb-true byte 57 both.1)
 
-last_digit : (n : ℕ) → hex_digit_ascii (n % 10) ≡ 48 + n % 10
-last_digit n = rw (lt-ltb (n % 10) 10 (omega arith))
+-- the library's test of a byte
+pub ascii_digit : (byte : ℕ) → is_ascii_digit byte ≡ is_digit byte
+unfolding is_digit
+ascii_digit byte = refl
 
 one_digit : (more n : ℕ) → n < 10 → digits_up_to more n ≡ (48 + n) ∷ []
 unfolding digits_up_to
@@ -30,31 +35,19 @@ more_digits : (more n : ℕ) → 10 ≤ n → digits_up_to (suc more) n ≡ digi
 unfolding digits_up_to
 more_digits more n h = rw (le-ltb n 10 h)
 
--- n / 10 takes a digit less
-fewest_tenth : (n k : ℕ) → IsDigitCount 10 1 n (suc (suc k)) → (10 ≤ n) × IsDigitCount 10 1 (n / 10) (suc k)
-fewest_tenth n k f =
-    let e : suc (suc k) - 1 ≡ suc k = omega arith in
-    let g : suc k - 1 ≡ k = omega arith in
-    let least : 10 ^ suc k ≤ n = rw e at (f.2 (omega arith)) in (
-      omega (arith, pow-suc 10 k, one-le-pow k 10 (omega arith)),
-      (omega arith, omega (arith, f.1, pow-suc 10 (suc k)), λ h. rw g (omega (arith, pow-suc 10 k))),
-    )
+digits_enough : (more n : ℕ) → n ≤ more → n < 2 ^ 64 → decimal n ≡ digits_up_to more n
+digits_enough zero n h small = decimal_digit n (omega arith) ∙ sym (one_digit zero n (omega arith))
+digits_enough (suc more) n h small = by (dec_lt n 10) (λ ten. digits_enough more (n / 10) (omega arith) (omega arith))
+  where
+    by : Dec (n < 10) → (10 ≤ n → decimal (n / 10) ≡ digits_up_to more (n / 10)) → decimal n ≡ digits_up_to (suc more) n
+    by (yes one) front = decimal_digit n one ∙ sym (one_digit (suc more) n one)
+    by (no several) front =
+        let ten : 10 ≤ n = omega arith in
+        decimal_step n ten small ∙ ap (λ (digits : List ℕ). digits ++ ((48 + n % 10) ∷ [])) (front ten) ∙ sym (more_digits more n ten)
 
--- the fewest digits have no leading zero
-digits_upto : (k more n : ℕ) → n ≤ more → IsDigitCount 10 1 n k → digits 10 k n ≡ digits_up_to more n
-digits_upto zero more n h f = absurd (omega (arith, f.0))
-digits_upto (suc zero) more n h f =
-    let small : n < 10 = f.1 in
-    let e : n % 10 ≡ n = omega arith in
-    rw (last_digit n, one_digit more n small, e)
-digits_upto (suc (suc k)) zero n h f = absurd (omega (arith, (fewest_tenth n k f).0))
-digits_upto (suc (suc k)) (suc more) n h f =
-    let tenth = fewest_tenth n k f in
-    ap (λ (front : List ℕ). front ++ (hex_digit_ascii (n % 10) ∷ [])) (digits_upto (suc k) more (n / 10) (omega arith) tenth.1)
-    ∙ rw (last_digit n, more_digits more n tenth.0)
-
-pub digits_of_lem : (n k : ℕ) → IsDigitCount 10 1 n k → digits 10 k n ≡ digits_of n
-digits_of_lem n k f = digits_upto k n n (omega arith) f
+-- the digits of a number are those that the library writes
+pub decimal_digits_of : (n : ℕ) → n < 2 ^ 64 → decimal n ≡ digits_of n
+decimal_digits_of n small = digits_enough n n (omega arith) small
 
 -- ---- bounds
 

@@ -1,19 +1,19 @@
 -- Where a line ends, how the search for it goes, and what it makes of the lines of an input.
 use Prim.Native.Nat.{ℕ, suc, ◌+◌, ◌≤◌, ◌<◌}
 use mathlib.Core.Path.{◌≡◌, refl}
-use mathlib.Core.Bool.{Bool, true, false}
+use mathlib.Core.Bool.{Bool, true, false, not, cond}
 use mathlib.Core.List.{List, [], ◌∷◌, ◌++◌, append_assoc, append-nil}
 use native.Mathlib.Nat.{add-zero}
-use native.Mathlib.Numerals.{add-one}
 use native.Mathlib.Omega.{arith}
-use lib.Dec.{eqb}
-use lib.ListN.{length, get_or, take, drop, length-drop, drop_of_length-le}
-use lib.Seq.{drop-cons}
-use borrow.Author.Tests.{eq-eqb, ne_eqb}
+use lib.Dec.{eqb, ltb}
+use borrow.Author.Tests.{ltb-false}
+use lib.ListN.{length, take, drop, length-drop, drop_of_length-le}
+use Rattle.std.specs.Prelude.{Some, None, position, unwrap_or, ◌==◌}
+use Rattle.std.specs.List.{position_or_len}
 use Rattle.laws.proofs.Tests.{cond_cases}
 use Rattle.listing.specs.Lines.{newline, line_length, end_of_line, lines_after}
 
-line_length_within : (bytes : List ℕ) → line_length bytes ≤ length bytes
+pub line_length_within : (bytes : List ℕ) → line_length bytes ≤ length bytes
 unfolding line_length
 line_length_within [] = omega arith
 line_length_within (byte ∷ bytes) =
@@ -28,19 +28,27 @@ pub end_within : (bytes : List ℕ) (from : ℕ) → from ≤ length bytes → e
 unfolding end_of_line
 end_within bytes from h = omega (arith, line_length_within (drop from bytes), length-drop from bytes)
 
--- the search for the end: at a newline, at another byte, and past the bytes
-module _ (bytes : List ℕ) (i : ℕ) where
-  pub end_here : i < length bytes → get_or bytes i 0 ≡ newline → end_of_line bytes i ≡ i
-  unfolding end_of_line line_length
-  end_here h e = rw (drop-cons bytes i 0 h, eq-eqb _ _ e, add-zero)
+-- the search for the end: the library's word for the bytes before a newline, and past the bytes
+prefix-line_length : (bytes : List ℕ) → position_or_len (λ byte. byte == newline) bytes ≡ line_length bytes
+unfolding line_length
+prefix-line_length [] = refl
+prefix-line_length (byte ∷ bytes) = by (eqb byte newline) (prefix-line_length bytes)
+  where
+    by : (t : Bool) → position_or_len (λ byte. byte == newline) bytes ≡ line_length bytes
+        → cond (not t) (1 + position_or_len (λ byte. byte == newline) bytes) 0 ≡ cond t 0 (suc (line_length bytes))
+    by true e = refl
+    by false e = omega arith
 
-  pub end_next : i < length bytes → (get_or bytes i 0 ≡ newline → ⊥) → end_of_line bytes i ≡ end_of_line bytes (i + 1)
-  unfolding end_of_line line_length
-  end_next h ne = rw (drop-cons bytes i 0 h, ne_eqb _ _ ne, add-one) (omega arith)
+pub line_length_found : (bytes : List ℕ) → unwrap_or (position (λ byte. byte == newline) bytes) (length bytes) ≡ line_length bytes
+line_length_found bytes = rw (prefix-line_length bytes) (by (ltb (line_length bytes) (length bytes)) refl)
+  where
+    by : (t : Bool) → ltb (line_length bytes) (length bytes) ≡ t → unwrap_or (cond t (Some (line_length bytes)) None) (length bytes) ≡ line_length bytes
+    by true e = refl
+    by false e = let past : length bytes ≤ line_length bytes = ltb-false _ _ e in omega (arith, line_length_within bytes)
 
-  pub end_past : length bytes ≤ i → end_of_line bytes i ≡ i
-  unfolding end_of_line line_length
-  end_past h = rw (drop_of_length-le bytes h, add-zero)
+pub end_past : (bytes : List ℕ) (from : ℕ) → length bytes ≤ from → end_of_line bytes from ≡ from
+unfolding end_of_line line_length
+end_past bytes from h = rw (drop_of_length-le bytes h, add-zero)
 
 -- ---- the lines of an input, read part by part
 

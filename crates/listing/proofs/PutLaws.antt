@@ -1,14 +1,15 @@
 -- Bytes put at a place of a buffer: one text behind another, and one byte more.
-use Prim.Native.Nat.{ℕ, suc, ◌+◌, ◌-◌, min, ◌≤◌, ◌<◌}
+use Prim.Native.Nat.{ℕ, suc, ◌+◌, ◌-◌, min, ◌≤◌}
 use mathlib.Core.Path.{◌≡◌, refl, sym, ap, ◌∙◌}
 use mathlib.Core.List.{List, [], ◌∷◌, ◌++◌}
-use native.Mathlib.Numerals.{add-one}
 use native.Mathlib.Decide.{dec_le}
 use native.Mathlib.Omega.{arith}
-use lib.ListN.{length, get_or, take, drop, set, length-append, take-append-drop}
-use lib.Seq.{sets, length-sets, set_out, length-take-le, take-suc, take-length}
-use Rattle.laws.proofs.SetsLaws.{sets-append, sets-snoc}
-use Rattle.listing.specs.Put.{Put}
+use lib.ListN.{length, take, drop, length-append, take-append-drop}
+use lib.Seq.{sets, length-sets, set_out, length-take-le, take-length}
+use Rattle.laws.proofs.SetsLaws.{sets-append}
+pub use Rattle.laws.proofs.SetsLaws.{part-written as part_written}
+use Rattle.listing.specs.declared.text.Output.{Output}
+use Rattle.listing.specs.Put.{Put, Puts}
 
 -- nothing is put beyond the end
 sets_past : (l : List ℕ) (i : ℕ) (xs : List ℕ) → length l ≤ i → sets l i xs ≡ l
@@ -41,14 +42,9 @@ put_then {l} {m} {r} {i} {j} {k} {xs} {ys} first second =
           omega (arith, first.place, second.place, length-append xs ys);
     }
 
--- one byte more
-pub sets_one : (l : List ℕ) (i : ℕ) (xs : List ℕ) (j : ℕ) → j < length xs → set (sets l i (take j xs)) (i + j) (get_or xs j 0) ≡ sets l i (take (j + 1) xs)
-sets_one l i xs j h =
-    rw (add-one j, take-suc xs j 0 h, sets-snoc l i (take j xs) (get_or xs j 0) j (length-take-le j xs (omega arith)))
-
 -- the bytes that fit are all that is put
-pub sets-fitting : (l : List ℕ) (i : ℕ) (xs : List ℕ) → sets l i (take (min (length xs) (length l - i)) xs) ≡ sets l i xs
-sets-fitting l i xs = by (dec_le (length xs) (length l - i))
+sets_fitting : (l : List ℕ) (i : ℕ) (xs : List ℕ) → sets l i (take (min (length xs) (length l - i)) xs) ≡ sets l i xs
+sets_fitting l i xs = by (dec_le (length xs) (length l - i))
   where
     by : Dec (length xs ≤ length l - i) → sets l i (take (min (length xs) (length l - i)) xs) ≡ sets l i xs
     by (yes fit) =
@@ -61,3 +57,28 @@ sets-fitting l i xs = by (dec_le (length xs) (length l - i))
         rw e
         (sym (ap (λ (vs : List ℕ). sets l i vs) (sym (take-append-drop n xs)) ∙ sets-append l i (take n xs) (drop n xs)
         ∙ sets_past (sets l i (take n xs)) (i + length (take n xs)) (drop n xs) (omega (arith, length-sets l i (take n xs)))))
+
+-- ---- outputs
+
+-- as many bytes as have room
+pub puts_fitting : {before after : Output} (text : List ℕ) (n : ℕ) → n ≡ min (length text) (length before.buffer.now - before.next)
+    → after.buffer.ghost_name ≡ before.buffer.ghost_name → after.buffer.now ≡ sets before.buffer.now before.next (take n text) → after.next ≡ before.next + n
+    → Puts before text after
+puts_fitting {before} text n fits same_buffer bytes place =
+    record {
+      same_buffer = same_buffer;
+      put = record { bytes = bytes ∙ rw fits (sets_fitting before.buffer.now before.next text); place = omega arith };
+    }
+
+-- nothing is put where the place is past the buffer's end
+pub puts_past : (out : Output) (text : List ℕ) → length out.buffer.now ≤ out.next → Puts out text out
+puts_past out text h =
+    record { same_buffer = refl; put = record { bytes = sym (sets_past out.buffer.now out.next text h); place = omega arith } }
+
+-- an equal text
+pub puts_text : {a b : Output} {xs ys : List ℕ} → Puts a xs b → xs ≡ ys → Puts a ys b
+puts_text puts e = rw e at puts
+
+-- one text behind another
+pub puts_then : {a b c : Output} {xs ys : List ℕ} → Puts a xs b → Puts b ys c → Puts a (xs ++ ys) c
+puts_then first second = record { same_buffer = second.same_buffer ∙ first.same_buffer; put = put_then first.put second.put }

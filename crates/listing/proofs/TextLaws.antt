@@ -2,12 +2,13 @@
 use Prim.Native.Nat.{ℕ, suc, ◌+◌, ◌^◌, min, ◌≤◌, ◌<◌}
 use mathlib.Core.Path.{◌≡◌, refl}
 use mathlib.Core.Bool.{Bool, true, false, ◌&&◌}
-use mathlib.Core.List.{List, [], ◌∷◌, ◌++◌, flat_map}
+use mathlib.Core.List.{List, [], flat_map}
 use native.Mathlib.Nat.{pow-le-pow_right}
 use native.Mathlib.Omega.{arith}
 use lib.Dec.{leb}
 use lib.ListN.{length, length-append}
 use borrow.Author.Tests.{leb-true}
+use Rattle.std.specs.Prelude.{Option, Some, None, codes}
 use Rattle.refusal.specs.Outcome.{answer, check}
 use Rattle.laws.proofs.Tests.{cond_cases, and-true}
 use Rattle.page.specs.PageSize.{standard_page_size}
@@ -15,8 +16,6 @@ use Rattle.page.proofs.PageSizeLaws.{page-size}
 use Rattle.overflow.specs.Totals.{Total, max_size, cell_numbers, raw_pages, total_pages, spare_room, total_of, page_total}
 use Rattle.overflow.proofs.TotalsLaws.{total_small}
 use Rattle.overflow.proofs.SpareLaws.{spare_small}
-use Rattle.listing.specs.declared.line.Size.{Size}
-use Rattle.listing.specs.declared.line.Size.TheVariants.{Bad, Bytes}
 use Rattle.listing.specs.Decimal.{is_digit, all_digits, decimal_after, decimal_of, digits_up_to}
 use Rattle.listing.specs.Lines.{lines_after, size_of}
 use Rattle.listing.specs.Text.{number_text, outcome_text, size_text, line_text, max_text, header, listing}
@@ -43,7 +42,7 @@ unfolding outcome_text number_text digits_up_to
 length-check true t h = h
 length-check false t h = omega arith
 
-length-size : (n : ℕ) → n < 10 ^ 9 → length (size_text standard_page_size (Bytes n)) ≤ max_text
+length-size : (n : ℕ) → n < 10 ^ 9 → length (size_text standard_page_size (Some n)) ≤ max_text
 unfolding size_text page_total
 length-size n h =
     simp length-append
@@ -53,9 +52,9 @@ length-size n h =
 pub length_line : (line : List ℕ) → length (line_text standard_page_size line) ≤ max_text
 unfolding line_text size_of size_text
 length_line line =
-    cond_cases (λ (size : Size). length (size_text standard_page_size size) ≤ max_text) (leb 1 (length line) && leb (length line) 9 && all_digits line) (Bytes (decimal_of line)) Bad sized (λ _. omega arith)
+    cond_cases (λ (size : Option ℕ). length (size_text standard_page_size size) ≤ max_text) (leb 1 (length line) && leb (length line) 9 && all_digits line) (Some (decimal_of line)) None sized (λ _. omega arith)
   where
-    sized : leb 1 (length line) && leb (length line) 9 && all_digits line ≡ true → length (size_text standard_page_size (Bytes (decimal_of line))) ≤ max_text
+    sized : leb 1 (length line) && leb (length line) 9 && all_digits line ≡ true → length (size_text standard_page_size (Some (decimal_of line))) ≤ max_text
     sized e =
         let both = and-true (leb 1 (length line) && leb (length line) 9) (all_digits line) e in
         let few : length line ≤ 9 = leb-true (length line) 9 (and-true (leb 1 (length line)) (leb (length line) 9) both.0).1 in
@@ -64,8 +63,8 @@ length_line line =
 
 -- ---- document 01's example, with document 02's spare room
 
--- `1`, `61381`, `0`, `7a`, the last without its newline
-example : listing standard_page_size (49 ∷ 10 ∷ 54 ∷ 49 ∷ 51 ∷ 56 ∷ 49 ∷ 10 ∷ 48 ∷ 10 ∷ 55 ∷ 97 ∷ [])
-    ≡ header ++ (49 ∷ 32 ∷ 49 ∷ 32 ∷ 49 ∷ 32 ∷ 52 ∷ 48 ∷ 57 ∷ 49 ∷ 10 ∷ 54 ∷ 49 ∷ 51 ∷ 56 ∷ 49 ∷ 32 ∷ 49 ∷ 54 ∷ 32 ∷ 49 ∷ 53 ∷ 32 ∷ 52 ∷ 48 ∷ 56 ∷ 55 ∷ 10 ∷ 48 ∷ 32 ∷ 114 ∷ 101 ∷ 102 ∷ 117 ∷ 115 ∷ 101 ∷ 100 ∷ 32 ∷ 49 ∷ 48 ∷ 10 ∷ 98 ∷ 97 ∷ 100 ∷ 10 ∷ [])
-unfolding max_size is_digit all_digits decimal_after digits_up_to raw_pages total_pages spare_room total_of page_total lines_after size_of number_text outcome_text size_text line_text listing flat_map
+-- the last line without its newline
+example : listing standard_page_size (codes "1\n61381\n0\n7a")
+    ≡ codes "size pages cell spare\n1 1 1 4091\n61381 16 15 4087\n0 refused 10\nbad\n"
+unfolding max_size is_digit all_digits decimal_after digits_up_to raw_pages total_pages spare_room total_of page_total lines_after size_of number_text outcome_text size_text line_text header listing flat_map
 example = refl

@@ -1,7 +1,5 @@
 -- The lines of an input, each without its newline, and the size that a line gives.
-use Rattle.std.specs.Prelude.{ℕ, suc, ◌+◌, ◌&&◌, cond, List, [], ◌∷◌, ◌++◌, leb, eqb, length, drop}
-use Rattle.listing.specs.declared.line.Size.{Size}
-use Rattle.listing.specs.declared.line.Size.TheVariants.{Bad, Bytes}
+use Rattle.std.specs.Prelude.{ℕ, suc, ◌+◌, ◌&&◌, cond, List, [], ◌∷◌, ◌++◌, Option, Some, None, leb, eqb, length, drop}
 use Rattle.listing.specs.Decimal.{all_digits, decimal_of}
 
 abbrev pub newline : ℕ
@@ -26,5 +24,5 @@ abbrev pub lines : List ℕ → List (List ℕ)
 lines = lines_after []
 
 -- a line of 1 to 9 digits is a size
-unfoldable pub size_of : List ℕ → Size
-size_of line = cond (leb 1 (length line) && leb (length line) 9 && all_digits line) (Bytes (decimal_of line)) Bad
+unfoldable pub size_of : List ℕ → Option ℕ
+size_of line = cond (leb 1 (length line) && leb (length line) 9 && all_digits line) (Some (decimal_of line)) None

@@ -1,10 +1,8 @@
 -- The text printed for a size, a line and an input, at pages of s bytes.
-use Rattle.std.specs.Prelude.{ℕ}
+use Rattle.std.specs.Prelude.{ℕ, Option, Some, None, codes}
 use mathlib.Core.List.{List, [], ◌∷◌, ◌++◌, flat_map}
 use Rattle.refusal.specs.Outcome.{Outcome, answer, refused}
 use Rattle.overflow.specs.Totals.{Total, page_total}
-use Rattle.listing.specs.declared.line.Size.{Size}
-use Rattle.listing.specs.declared.line.Size.TheVariants.{Bad, Bytes}
 use Rattle.listing.specs.Decimal.{digits_of}
 use Rattle.listing.specs.Lines.{newline, lines, size_of}
 
@@ -15,12 +13,12 @@ number_text n = 32 ∷ digits_of n
 -- behind a size: its total, the numbers in the cell and the spare room; or ` refused` and the refusal's number
 unfoldable pub outcome_text : Outcome Total → List ℕ
 outcome_text (answer t) = number_text t.total ++ (number_text t.cell ++ number_text t.spare)
-outcome_text (refused number values) = 32 ∷ 114 ∷ 101 ∷ 102 ∷ 117 ∷ 115 ∷ 101 ∷ 100 ∷ number_text number
+outcome_text (refused number values) = codes " refused" ++ number_text number
 
 -- `bad`, or the size and what is told of it
-unfoldable pub size_text : ℕ → Size → List ℕ
-size_text s Bad = 98 ∷ 97 ∷ 100 ∷ newline ∷ []
-size_text s (Bytes n) = digits_of n ++ (outcome_text (page_total s n) ++ (newline ∷ []))
+unfoldable pub size_text : ℕ → Option ℕ → List ℕ
+size_text s None = codes "bad\n"
+size_text s (Some n) = digits_of n ++ (outcome_text (page_total s n) ++ (newline ∷ []))
 
 -- what is printed for a line
 unfoldable pub line_text : ℕ → List ℕ → List ℕ
@@ -30,9 +28,8 @@ line_text s line = size_text s (size_of line)
 abbrev pub max_text : ℕ
 max_text = 64
 
--- `size pages cell spare`
 unfoldable pub header : List ℕ
-header = 115 ∷ 105 ∷ 122 ∷ 101 ∷ 32 ∷ 112 ∷ 97 ∷ 103 ∷ 101 ∷ 115 ∷ 32 ∷ 99 ∷ 101 ∷ 108 ∷ 108 ∷ 32 ∷ 115 ∷ 112 ∷ 97 ∷ 114 ∷ 101 ∷ newline ∷ []
+header = codes "size pages cell spare\n"
 
 -- all that is printed for an input
 unfoldable pub listing : ℕ → List ℕ → List ℕ

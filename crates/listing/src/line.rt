@@ -1,36 +1,69 @@
 // A line of the input, read part by part: where it ends, and what is accumulated of it.
-ghost use Rattle.std.specs.Prelude.{◌≡◌, eqb};
-ghost use Rattle.listing.specs.Decimal.{is_digit};
-ghost use Rattle.listing.specs.Lines.{end_of_line};
-ghost use Rattle.listing.specs.Accumulated.{no_bytes, no_size, with_byte, with_bytes, accumulated_size};
+ghost use Rattle.std.specs.Prelude.{◌≡◌, ◌<◌, ◌≤◌, ◌==◌, IfSome, length, position};
+ghost use Rattle.listing.specs.Lines.{newline, line_length, end_of_line};
+ghost use Rattle.listing.specs.Accumulated.{no_bytes, digits_with_byte, with_byte, with_bytes, accumulated_empty, accumulated_size};
+
+// The place of the first newline, if there is one.
+pub fn first_newline(bytes: &[u8]) -> Option<usize>
+    ensures value { result ≡ position (λ byte. byte == newline) bytes.now }
+    ensures within { IfSome result (λ place. place < length bytes.now) }
+{
+    bytes.iter().position(|byte| *byte == b'\n')
+}
 
 // The place of the first newline at or after `from`, or the length; `from` where that is past the end.
-#[tactic(auto, using(crate::proofs::LinesLaws::end_here, crate::proofs::LinesLaws::end_next, crate::proofs::LinesLaws::end_past))]
+#[tactic(auto, using(crate::proofs::LinesLaws::end_past), unfolding(crate::specs::Lines::end_of_line))]
 pub fn end_of_line(bytes: &[u8], from: usize) -> usize
     ensures { result ≡ end_of_line bytes.now from }
 {
-    let mut i = from;
-    while i < bytes.len() {
-        if bytes[i] == b'\n' {
-            return i;
-        }
-        i += 1;
+    if bytes.len() < from {
+        return from;
     }
-    i
+    from + line_length(&bytes[from..])
 }
 
-// The size that a line gives.
+// The bytes before the first newline, or all.
+#[tactic(auto, using(crate::proofs::LinesLaws::line_length_found, crate::proofs::LinesLaws::line_length_within))]
+fn line_length(bytes: &[u8]) -> usize
+    ensures value { result ≡ line_length bytes.now }
+    ensures within { result ≤ length bytes.now }
+{
+    first_newline(bytes).unwrap_or(bytes.len())
+}
+
+// Up to nine digits: how many, and the number that they write.
 #[derive(Clone, Copy)]
-pub enum Size {
-    Bad,
-    Bytes(u64),
+struct Digits {
+    count: usize,
+    value: u64,
 }
 
-// What is accumulated of a line. Of up to 9 digits: how many, and the number that they write. Of any other line: 10 and 0.
+impl Digits {
+    // With one byte more, or nothing where that is no size. Up to eight digits write less than 100,000,000: that test is there so that no sum wraps.
+    #[tactic(auto, using(crate::proofs::DecimalLaws::ascii_digit), unfolding(crate::specs::Accumulated::digits_with_byte))]
+    fn with_byte(self, byte: u8) -> Option<Digits>
+        ensures { result ≡ digits_with_byte self byte }
+    {
+        if 9 <= self.count {
+            return None;
+        }
+        if 100_000_000 <= self.value {
+            return None;
+        }
+        if !byte.is_ascii_digit() {
+            return None;
+        }
+        Some(Digits {
+            count: self.count + 1,
+            value: 10 * self.value + u64::from(byte - b'0'),
+        })
+    }
+}
+
+// What is accumulated of a line: its digits, or nothing where it is no size, whatever follows.
 #[derive(Clone, Copy)]
 pub struct Line {
-    digits: usize,
-    value: u64,
+    digits: Option<Digits>,
 }
 
 impl Line {
@@ -39,82 +72,41 @@ impl Line {
         ensures { result ≡ no_bytes }
     {
         Line {
-            digits: 0,
-            value: 0,
-        }
-    }
-
-    // Of a line that is no size.
-    fn no_size() -> Line
-        ensures { result ≡ no_size }
-    {
-        Line {
-            digits: 10,
-            value: 0,
+            digits: Some(Digits { count: 0, value: 0 }),
         }
     }
 
     // Whether no byte was read.
     pub fn is_empty(self) -> bool
-        ensures { result ≡ eqb self.digits 0 }
+        ensures { result ≡ accumulated_empty self }
     {
-        self.digits == 0
+        self.digits.is_some_and(|digits| digits.count == 0)
     }
 
-    #[tactic(auto, unfolding(crate::specs::Accumulated::accumulated_size))]
-    pub fn size(self) -> Size
+    // The size that the line gives, if it is one.
+    pub fn size(self) -> Option<u64>
         ensures { result ≡ accumulated_size self }
     {
-        if self.digits == 0 {
-            return Size::Bad;
+        let digits = self.digits?;
+        if digits.count == 0 {
+            return None;
         }
-        if 9 < self.digits {
-            return Size::Bad;
-        }
-        Size::Bytes(self.value)
+        Some(digits.value)
     }
 
-    // After one byte more. Up to eight digits write less than 100,000,000: that test is there so that no sum wraps.
-    #[tactic(auto, using(crate::proofs::DecimalLaws::digit_range), unfolding(crate::specs::Accumulated::with_byte))]
+    // After one byte more.
     fn with_byte(self, byte: u8) -> Line
         ensures { result ≡ with_byte self byte }
     {
-        if 9 <= self.digits {
-            return Line::no_size();
-        }
-        if 100_000_000 <= self.value {
-            return Line::no_size();
-        }
-        if !is_digit(byte) {
-            return Line::no_size();
-        }
         Line {
-            digits: self.digits + 1,
-            value: 10 * self.value + (byte - b'0') as u64,
+            digits: self.digits.and_then(|digits| digits.with_byte(byte)),
         }
     }
 
     // After a part of the line.
-    #[tactic(auto, using(crate::proofs::AccumulatedLaws::with_bytes_at, crate::proofs::AccumulatedLaws::with_bytes_past))]
     pub fn with_bytes(self, bytes: &[u8]) -> Line
         ensures { result ≡ with_bytes self bytes.now }
     {
-        let mut line = self;
-        let mut i = 0;
-        while i < bytes.len() {
-            line = line.with_byte(bytes[i]);
-            i += 1;
-        }
-        line
+        bytes.iter().fold(self, |line, byte| line.with_byte(*byte))
     }
-}
-
-#[tactic(auto, unfolding(crate::specs::Decimal::is_digit))]
-fn is_digit(byte: u8) -> bool
-    ensures { result ≡ is_digit byte }
-{
-    if byte < b'0' {
-        return false;
-    }
-    byte <= b'9'
 }

@@ -1,98 +1,136 @@
-// The text of the listing, put into a buffer at a place.
-//
-// Each function answers the place behind what it put. What goes beyond the buffer's end is left out.
-ghost use Rattle.std.specs.Prelude.{◌≡◌, ◌-◌, min};
+// The text of the listing, put into a lent buffer.
+ghost use Rattle.std.specs.Prelude.{◌≡◌, ◌+◌, ◌-◌, ◌≤◌, take, length};
+ghost use Rattle.std.proofs.lemmas.List.Edits.{sets};
 ghost use Rattle.page.specs.PageSize.{standard_page_size};
 ghost use Rattle.overflow.specs.Totals.{total_outcome};
 ghost use Rattle.listing.specs.Decimal.{digits_of};
 ghost use Rattle.listing.specs.Accumulated.{accumulated_size};
 ghost use Rattle.listing.specs.Text.{header, number_text, outcome_text, size_text};
-ghost use Rattle.listing.specs.Put.{Put};
+ghost use Rattle.listing.specs.Put.{Puts};
 
-use crate::line::{Line, Size};
+use crate::line::Line;
 use overflow::total::{Totalled, page_total};
 use page::size::PAGE_SIZE;
 
 // The text of a line that was read has at most so many bytes: `max_text` of specs/Text.
 pub const MAX_TEXT: usize = 64;
 
-#[tactic(auto, unfolding(crate::specs::Text::header))]
-pub fn put_header(out: &mut [u8], at: usize) -> usize
-    ensures { Put out.old at header out.new result }
-{
-    put(out, at, b"size pages cell spare\n")
+// A lent buffer, and the place behind what was put into it. What goes beyond the buffer's end is left out.
+#[derive(Drop)]
+pub struct Output<'a> {
+    pub buffer: &'a mut [u8],
+    pub next: usize,
 }
 
-// What is printed for a line.
-pub fn put_line(line: Line, out: &mut [u8], at: usize) -> usize
-    ensures { Put out.old at (size_text standard_page_size (accumulated_size line)) out.new result }
-{
-    match line.size() {
-        Size::Bad => put(out, at, b"bad\n"),
-        Size::Bytes(size) => {
-            let behind_size = put_digits(size, out, at);
-            let behind_outcome = put_outcome(page_total(PAGE_SIZE, size), out, behind_size);
-            put(out, behind_outcome, b"\n")
+impl<'a> Output<'a> {
+    pub fn new(buffer: &'a mut [u8]) -> Output<'a>
+        ensures same_buffer { result.buffer.ghost_name ≡ buffer.entry.ghost_name }
+        ensures bytes { result.buffer.now ≡ buffer.old }
+        ensures next { result.next ≡ 0 }
+    {
+        Output { buffer, next: 0 }
+    }
+
+    // What was put, from the buffer's start.
+    pub fn written(&self) -> &[u8]
+        ensures { result.now ≡ take self.now.next self.now.buffer.now }
+    {
+        let n = self.next.min(self.buffer.len());
+        &self.buffer[..n]
+    }
+
+    // How many bytes more go in.
+    pub fn room(&self) -> usize
+        ensures { result ≡ length self.now.buffer.now - self.now.next }
+    {
+        self.buffer.len().saturating_sub(self.next)
+    }
+
+    // Begins again at the buffer's start.
+    pub fn clear(&mut self)
+        ensures same_buffer { self.new.buffer.ghost_name ≡ self.old.buffer.ghost_name }
+        ensures bytes { self.new.buffer.now ≡ self.old.buffer.now }
+        ensures next { self.new.next ≡ 0 }
+    {
+        self.next = 0;
+    }
+
+    #[tactic(auto, unfolding(crate::specs::Text::header))]
+    pub fn put_header(&mut self)
+        ensures { Puts self.old header self.new }
+    {
+        self.put(b"size pages cell spare\n");
+    }
+
+    // What is printed for a line.
+    pub fn put_line(&mut self, line: Line)
+        ensures { Puts self.old (size_text standard_page_size (accumulated_size line)) self.new }
+    {
+        match line.size() {
+            None => self.put(b"bad\n"),
+            Some(size) => {
+                self.put_digits(size);
+                self.put_outcome(page_total(PAGE_SIZE, size));
+                self.put(b"\n");
+            }
+        }
+    }
+
+    // What is printed behind a size.
+    fn put_outcome(&mut self, outcome: Totalled)
+        ensures { Puts self.old (outcome_text (total_outcome outcome)) self.new }
+    {
+        match outcome {
+            Totalled::Pages(pages) => {
+                self.put_number(pages.total as u64);
+                self.put_number(pages.cell as u64);
+                self.put_number(pages.spare as u64);
+            }
+            Totalled::Refused(refusal) => {
+                let mut values = [0u64; 8];
+                let number = refusal.report(&mut values);
+                self.put(b" refused");
+                self.put_number(number as u64);
+            }
+        }
+    }
+
+    // A space and a number.
+    fn put_number(&mut self, n: u64)
+        ensures { Puts self.old (number_text n) self.new }
+    {
+        self.put(b" ");
+        self.put_digits(n);
+    }
+
+    // A number in decimal.
+    #[tactic(auto, using(crate::proofs::PutLaws::puts_text, crate::proofs::DecimalLaws::decimal_digits_of))]
+    fn put_digits(&mut self, n: u64)
+        ensures { Puts self.old (digits_of n) self.new }
+    {
+        let mut digits = itoa::Buffer::new();
+        self.put(digits.format(n).as_bytes());
+    }
+
+    // Bytes, as many as have room.
+    #[tactic(auto, using(crate::proofs::PutLaws::puts_past))]
+    fn put(&mut self, bytes: &[u8])
+        ensures { Puts self.old bytes.now self.new }
+    {
+        let room = self.room();
+        if room > 0 {
+            let n = bytes.len().min(room);
+            write_at(self.buffer, self.next, &bytes[..n]);
+            self.next += n;
         }
     }
 }
 
-// What is printed behind a size.
-fn put_outcome(outcome: Totalled, out: &mut [u8], at: usize) -> usize
-    ensures { Put out.old at (outcome_text (total_outcome outcome)) out.new result }
+// Bytes over those from a place on.
+#[tactic(auto, using(crate::proofs::PutLaws::part_written))]
+fn write_at(to: &mut [u8], at: usize, bytes: &[u8])
+    requires { at + length bytes.now ≤ length to.old }
+    ensures { to.new ≡ sets to.old at bytes.now }
 {
-    match outcome {
-        Totalled::Pages(pages) => {
-            let behind_total = put_number(pages.total as u64, out, at);
-            let behind_cell = put_number(pages.cell as u64, out, behind_total);
-            put_number(pages.spare as u64, out, behind_cell)
-        }
-        Totalled::Refused(refusal) => {
-            let mut values = [0u64; 8];
-            let number = refusal.report(&mut values);
-            let behind_word = put(out, at, b" refused");
-            put_number(number as u64, out, behind_word)
-        }
-    }
-}
-
-// A space and a number.
-fn put_number(n: u64, out: &mut [u8], at: usize) -> usize
-    ensures { Put out.old at (number_text n) out.new result }
-{
-    let behind_space = put(out, at, b" ");
-    put_digits(n, out, behind_space)
-}
-
-// A number in decimal.
-fn put_digits(n: u64, out: &mut [u8], at: usize) -> usize
-    ensures { Put out.old at (digits_of n) out.new result }
-{
-    let mut digits = [0u8; 20];
-    let count = io::decimal(n, &mut digits);
-    put(out, at, &digits[..count])
-}
-
-// Bytes, as many as have room.
-fn put(out: &mut [u8], at: usize, bytes: &[u8]) -> usize
-    ensures { Put out.old at bytes.now out.new result }
-{
-    let n = fitting(bytes.len(), at, out.len());
-    let mut i = 0;
-    while i < n {
-        out[at + i] = bytes[i];
-        i += 1;
-    }
-    at + n
-}
-
-// How many of so many bytes have room from `at` to `end`.
-fn fitting(count: usize, at: usize, end: usize) -> usize
-    ensures { result ≡ min count (end - at) }
-{
-    if end <= at {
-        return 0;
-    }
-    let room = end - at;
-    if room < count { room } else { count }
+    to[at..at + bytes.len()].copy_from_slice(bytes);
 }

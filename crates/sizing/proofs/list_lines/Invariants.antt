@@ -1,11 +1,10 @@
--- `list_lines` keeps room for a line's text. The invariant says so. The measure is what is left of the bytes.
+-- `list_lines` is safe and ends. The invariant: what is left is no longer than the bytes. The measure is what is left of them.
 -- Assumes nothing.
-use Rattle.std.proofs.Common.{◌+◌, ◌-◌, ◌≤◌, length}
-use Rattle.listing.specs.Text.{max_text}
+use Rattle.std.proofs.Common.{◌≤◌, length}
 use Rattle.sizing.proofs.list_lines.Given as goal
 
-abbrev pub invariant-loop-from : goal.invariant-loop-from
-invariant-loop-from g l = l.progress.waiting + max_text ≤ length l.output
+abbrev pub invariant-loop-end : goal.invariant-loop-end
+invariant-loop-end g l = length l.rest ≤ length l.bytes
 
-abbrev pub decreases-loop-from : goal.decreases-loop-from
-decreases-loop-from g l = length l.bytes - l.from
+abbrev pub decreases-loop-end : goal.decreases-loop-end
+decreases-loop-end g l = length l.rest
