@@ -60,6 +60,10 @@ digits_few (suc more) (suc k) n h =
     cond_cases (λ (digits : List ℕ). length digits ≤ suc (suc k)) (ltb n 10) ((48 + n) ∷ []) (digits_up_to more (n / 10) ++ ((48 + n % 10) ∷ []))
     (λ _. omega arith) (λ _. rw length-append (omega (arith, digits_few more k (n / 10) (omega (arith, pow-suc 10 (suc k))))))
 
+-- a u64 has at most 20
+pub digits_short : (n : ℕ) → n < 2 ^ 64 → length (digits_of n) ≤ 20
+digits_short n h = digits_few n 19 n (omega arith)
+
 -- digits behind a number below 10 ^ d
 pub decimal_bound : (bytes : List ℕ) (d n : ℕ) → n < 10 ^ d → all_digits bytes ≡ true → decimal_after n bytes < 10 ^ (d + length bytes)
 unfolding all_digits decimal_after

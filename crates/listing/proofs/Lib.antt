@@ -5,3 +5,4 @@ pub mod AccumulatedLaws
 pub mod PutLaws
 pub mod TextLaws
 pub mod ListingLaws
+pub mod ReadLaws

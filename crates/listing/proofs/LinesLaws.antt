@@ -29,7 +29,7 @@ unfolding end_of_line
 end_within bytes from h = omega (arith, line_length_within (drop from bytes), length-drop from bytes)
 
 -- the search for the end: the library's word for the bytes before a newline, and past the bytes
-prefix-line_length : (bytes : List ℕ) → position_or_len (λ byte. byte == newline) bytes ≡ line_length bytes
+pub prefix-line_length : (bytes : List ℕ) → position_or_len (λ byte. byte == newline) bytes ≡ line_length bytes
 unfolding line_length
 prefix-line_length [] = refl
 prefix-line_length (byte ∷ bytes) = by (eqb byte newline) (prefix-line_length bytes)

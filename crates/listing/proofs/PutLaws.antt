@@ -5,7 +5,7 @@ use mathlib.Core.List.{List, [], ◌∷◌, ◌++◌}
 use native.Mathlib.Decide.{dec_le}
 use native.Mathlib.Omega.{arith}
 use lib.ListN.{length, take, drop, length-append, take-append-drop}
-use lib.Seq.{sets, length-sets, set_out, length-take-le, take-length}
+use lib.Seq.{sets, sets-eq, take_at, length-sets, set_out, length-take-le, take-length}
 use Rattle.laws.proofs.SetsLaws.{sets-append}
 pub use Rattle.laws.proofs.SetsLaws.{part-written as part_written}
 use Rattle.listing.specs.declared.text.Output.{Output}
@@ -82,3 +82,14 @@ puts_text puts e = rw e at puts
 -- one text behind another
 pub puts_then : {a b c : Output} {xs ys : List ℕ} → Puts a xs b → Puts b ys c → Puts a (xs ++ ys) c
 puts_then first second = record { same_buffer = second.same_buffer ∙ first.same_buffer; put = put_then first.put second.put }
+
+-- the buffer keeps its length
+pub puts_length : {a b : Output} {xs : List ℕ} → Puts a xs b → length b.buffer.now ≡ length a.buffer.now
+puts_length {a} {xs = xs} puts = rw puts.put.bytes (length-sets a.buffer.now a.next xs)
+
+-- a text that has room is put whole
+pub put_whole : {l m : List ℕ} {i j : ℕ} {xs : List ℕ} → Put l i xs m j → i + length xs ≤ length l → (j ≡ i + length xs) × (take j m ≡ take i l ++ xs)
+put_whole {l} {m} {i} {j} {xs} put h =
+    let place : j ≡ i + length xs = omega (arith, put.place) in
+    let long : length (take i l ++ xs) ≡ i + length xs = omega (arith, length-append (take i l) xs, length-take-le i l (omega arith)) in
+    (place, rw (place, put.bytes, sets-eq xs l i h) (take_at (take i l ++ xs) (drop (i + length xs) l) (i + length xs) long))

@@ -16,10 +16,10 @@ use Rattle.page.proofs.PageSizeLaws.{page-size}
 use Rattle.overflow.specs.Totals.{Total, max_size, cell_numbers, raw_pages, total_pages, spare_room, total_of, page_total}
 use Rattle.overflow.proofs.TotalsLaws.{total_small}
 use Rattle.overflow.proofs.SpareLaws.{spare_small}
-use Rattle.listing.specs.Decimal.{is_digit, all_digits, decimal_after, decimal_of, digits_up_to}
+use Rattle.listing.specs.Decimal.{is_digit, all_digits, decimal_after, decimal_of, digits_up_to, digits_of}
 use Rattle.listing.specs.Lines.{lines_after, size_of}
 use Rattle.listing.specs.Text.{number_text, outcome_text, size_text, line_text, max_text, header, listing}
-use Rattle.listing.proofs.DecimalLaws.{digits_few, decimal_bound}
+use Rattle.listing.proofs.DecimalLaws.{digits_few, digits_short, decimal_bound}
 
 -- ---- how long a text is
 
@@ -37,16 +37,28 @@ length_answer n h =
     simp length-append
     (omega (arith, length-number 9 t few, length-number 1 (min t cell_numbers) (omega arith), length-number 9 (spare_room standard_page_size n t) spare))
 
-length-check : (b : Bool) (t : Total) → length (outcome_text (answer t)) ≤ 25 → length (outcome_text (check b 10 [] (answer t))) ≤ 25
+length-check : (b : Bool) (t : Total) → (b ≡ true → length (outcome_text (answer t)) ≤ 25) → length (outcome_text (check b 10 [] (answer t))) ≤ 25
 unfolding outcome_text number_text digits_up_to
-length-check true t h = h
+length-check true t h = h refl
 length-check false t h = omega arith
 
-length-size : (n : ℕ) → n < 10 ^ 9 → length (size_text standard_page_size (Some n)) ≤ max_text
-unfolding size_text page_total
-length-size n h =
+-- the text of a size of up to 20 digits
+pub length_size : (n : ℕ) → length (digits_of n) ≤ 20 → length (size_text standard_page_size (Some n)) ≤ max_text
+unfolding size_text page_total max_size
+length_size n few =
     simp length-append
-    (omega (arith, digits_few n 8 n h, length-check (leb 1 n && leb n (max_size standard_page_size)) (total_of standard_page_size n (total_pages standard_page_size n)) (length_answer n h)))
+    (omega (arith, length-check (leb 1 n && leb n (max_size standard_page_size)) (total_of standard_page_size n (total_pages standard_page_size n)) short))
+  where
+    short : leb 1 n && leb n (max_size standard_page_size) ≡ true → length (outcome_text (answer (total_of standard_page_size n (total_pages standard_page_size n)))) ≤ 25
+    short e = length_answer n (omega (arith, leb-true n (max_size standard_page_size) (and-true (leb 1 n) (leb n (max_size standard_page_size)) e).1))
+
+pub length_header : length header ≤ max_text
+unfolding header
+length_header = omega arith
+
+pub length_bad : length (size_text standard_page_size None) ≤ max_text
+unfolding size_text
+length_bad = omega arith
 
 -- the text of a line
 pub length_line : (line : List ℕ) → length (line_text standard_page_size line) ≤ max_text
@@ -59,7 +71,7 @@ length_line line =
         let both = and-true (leb 1 (length line) && leb (length line) 9) (all_digits line) e in
         let few : length line ≤ 9 = leb-true (length line) 9 (and-true (leb 1 (length line)) (leb (length line) 9) both.0).1 in
         let most : 10 ^ (0 + length line) ≤ 10 ^ 9 = pow-le-pow_right {n = 10} (omega arith) {i = 0 + length line} {j = 9} (omega arith) in
-        length-size (decimal_of line) (omega (arith, decimal_bound line 0 0 (omega arith) both.1))
+        length_size (decimal_of line) (digits_short (decimal_of line) (omega (arith, decimal_bound line 0 0 (omega arith) both.1)))
 
 -- ---- document 01's example, with document 02's spare room
 

@@ -5,7 +5,7 @@ ghost use Rattle.page.specs.PageSize.{standard_page_size};
 ghost use Rattle.overflow.specs.Totals.{total_outcome};
 ghost use Rattle.listing.specs.Decimal.{digits_of};
 ghost use Rattle.listing.specs.Accumulated.{accumulated_size};
-ghost use Rattle.listing.specs.Text.{header, number_text, outcome_text, size_text};
+ghost use Rattle.listing.specs.Text.{header, number_text, outcome_text, size_text, max_text};
 ghost use Rattle.listing.specs.Put.{Puts};
 
 use crate::line::Line;
@@ -64,7 +64,8 @@ impl<'a> Output<'a> {
 
     // What is printed for a line.
     pub fn put_line(&mut self, line: Line)
-        ensures { Puts self.old (size_text standard_page_size (accumulated_size line)) self.new }
+        ensures puts { Puts self.old (size_text standard_page_size (accumulated_size line)) self.new }
+        ensures short { length (size_text standard_page_size (accumulated_size line)) ≤ max_text }
     {
         match line.size() {
             None => self.put(b"bad\n"),
@@ -104,9 +105,10 @@ impl<'a> Output<'a> {
     }
 
     // A number in decimal.
-    #[tactic(auto, using(crate::proofs::PutLaws::puts_text, crate::proofs::DecimalLaws::decimal_digits_of))]
+    #[tactic(auto, using(crate::proofs::PutLaws::puts_text, crate::proofs::DecimalLaws::decimal_digits_of, crate::proofs::DecimalLaws::digits_short))]
     fn put_digits(&mut self, n: u64)
-        ensures { Puts self.old (digits_of n) self.new }
+        ensures puts { Puts self.old (digits_of n) self.new }
+        ensures short { length (digits_of n) ≤ 20 }
     {
         let mut digits = itoa::Buffer::new();
         self.put(digits.format(n).as_bytes());

@@ -3,6 +3,14 @@
 // What is printed is document 01's listing. The crate `listing` does the work on bytes; here they are read and written.
 #![tactic(auto)]
 
+ghost use Rattle.std.specs.Prelude.{◌≡◌, ◌+◌, ◌≤◌, List, [], ◌++◌, length, take, OnOk, IfOk};
+ghost use Rattle.std.specs.Io.KnownBytes.{Appends};
+ghost use Rattle.page.specs.PageSize.{standard_page_size};
+ghost use Rattle.listing.specs.Accumulated.{accumulated_size};
+ghost use Rattle.listing.specs.Read.{lines_text, line_after, last_text};
+ghost use Rattle.listing.specs.Text.{max_text, header, size_text};
+ghost use Rattle.sizing.specs.Print.{printed, Prints};
+
 use listing::line::{Line, first_newline};
 use listing::text::{MAX_TEXT, Output};
 use std::io;
@@ -18,11 +26,18 @@ fn main(rt: HostRuntime) {
     let _ = list(&mut rt.stdin(), &mut printer);
 }
 
-// Lists all lines, the last one too where it lacks its newline. An input that cannot be read on ends there.
-fn list<W: Write>(reader: &mut impl Read, printer: &mut Printer<'_, W>) -> io::Result<()> {
+// Lists all of the input. Where it cannot be read on, it ends.
+fn list<R: Read, W: Write>(reader: &mut R, printer: &mut Printer<'_, W>) -> io::Result<()> {
+    printer.print_header()?;
+    let line = list_input(reader, printer)?;
+    printer.print_last(line)?;
+    printer.flush()
+}
+
+// Lists the lines that end, and answers what is accumulated of the last one, which lacks its newline.
+fn list_input<R: Read, W: Write>(reader: &mut R, printer: &mut Printer<'_, W>) -> io::Result<Line> {
     let mut input = [0u8; 65536];
     let mut line = Line::new();
-    printer.output.put_header();
     // A proved loop has to end, and nothing says that the input does: no run uses up the turns.
     for _ in 0..u64::MAX {
         let count = reader.read(&mut input).unwrap_or(0);
@@ -31,18 +46,14 @@ fn list<W: Write>(reader: &mut impl Read, printer: &mut Printer<'_, W>) -> io::R
         }
         line = list_lines(printer, line, &input[..count])?;
     }
-    if !line.is_empty() {
-        printer.print_line(line)?;
-    }
-    printer.flush()
+    Ok(line)
 }
 
 // Lists the lines that end in `bytes`, the first of which goes on from `line`, and answers what is accumulated of the one behind them.
-fn list_lines<W: Write>(
-    printer: &mut Printer<'_, W>,
-    line: Line,
-    bytes: &[u8],
-) -> io::Result<Line> {
+fn list_lines<W: Write>(printer: &mut Printer<'_, W>, line: Line, bytes: &[u8]) -> io::Result<Line>
+    ensures line { IfOk result (λ behind. behind ≡ line_after line bytes.now) }
+    ensures prints { OnOk result (Prints (W.contents printer.old.writer) printer.old.output (lines_text standard_page_size line bytes.now) (W.contents printer.new.writer) printer.new.output) }
+{
     let mut line = line;
     let mut rest = bytes;
     while let Some(end) = first_newline(rest) {
@@ -60,20 +71,52 @@ fn list_lines<W: Write>(
 struct Printer<'a, W> {
     writer: W,
     output: Output<'a>,
+    ghost room: { max_text ≤ length output.buffer.now },
 }
 
 impl<W: Write> Printer<'_, W> {
-    // What waits is written first where it may leave no room for the line's text.
-    fn print_line(&mut self, line: Line) -> io::Result<()> {
-        if self.output.room() < MAX_TEXT {
-            self.flush()?;
-        }
+    fn print_header(&mut self) -> io::Result<()>
+        ensures { OnOk result (Prints (W.contents self.old.writer) self.old.output header (W.contents self.new.writer) self.new.output) }
+    {
+        self.make_room()?;
+        self.output.put_header();
+        Ok(())
+    }
+
+    fn print_line(&mut self, line: Line) -> io::Result<()>
+        ensures { OnOk result (Prints (W.contents self.old.writer) self.old.output (size_text standard_page_size (accumulated_size line)) (W.contents self.new.writer) self.new.output) }
+    {
+        self.make_room()?;
         self.output.put_line(line);
         Ok(())
     }
 
+    // The last line, which lacks its newline, if it has a byte.
+    fn print_last(&mut self, line: Line) -> io::Result<()>
+        ensures { OnOk result (Prints (W.contents self.old.writer) self.old.output (last_text standard_page_size line) (W.contents self.new.writer) self.new.output) }
+    {
+        if line.is_empty() {
+            return Ok(());
+        }
+        self.print_line(line)
+    }
+
+    // Writes what waits where it may leave no room for another text.
+    fn make_room(&mut self) -> io::Result<()>
+        ensures room { OnOk result (self.new.output.next + max_text ≤ length self.new.output.buffer.now) }
+        ensures prints { OnOk result (Prints (W.contents self.old.writer) self.old.output [] (W.contents self.new.writer) self.new.output) }
+    {
+        if self.output.room() < MAX_TEXT {
+            return self.flush();
+        }
+        Ok(())
+    }
+
     // Writes what waits.
-    fn flush(&mut self) -> io::Result<()> {
+    fn flush(&mut self) -> io::Result<()>
+        ensures written { OnOk result (Appends (W.contents self.old.writer) (W.contents self.new.writer) (take self.old.output.next self.old.output.buffer.now)) }
+        ensures empty { OnOk result (self.new.output.next ≡ 0) }
+    {
         self.writer.write_all(self.output.written())?;
         self.output.clear();
         Ok(())

@@ -6,4 +6,4 @@ use Rattle.listing.proofs.text.Output.put_number.Goals as goal
 
 pub returns : goal.returns
 unfolding number_text
-returns c = puts_then c.put.ensures c.put_digits.ensures
+returns c = puts_then c.put.ensures c.put_digits.ensures.puts

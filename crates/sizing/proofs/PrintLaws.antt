@@ -1,0 +1,86 @@
+-- Laws about what is printed: nothing, one text behind another, and what a put and a write leave.
+use Prim.Native.Nat.{ℕ, ◌+◌, ◌≤◌}
+use mathlib.Core.Path.{◌≡◌, refl, sym, ◌∙◌}
+use mathlib.Core.List.{List, [], ◌++◌, append_assoc, append-nil}
+use lib.ListN.{length, take, drop}
+use native.Mathlib.Omega.{arith}
+use Rattle.std.specs.Prelude.{Option, Some, None, Result, Ok, Err, OnOk, position, ◌==◌}
+use Rattle.std.specs.Io.KnownBytes.{append_known, Appends}
+use Rattle.listing.specs.declared.text.Output.{Output}
+use Rattle.listing.specs.declared.line.Line.{Line}
+use Rattle.page.specs.PageSize.{standard_page_size}
+use Rattle.listing.specs.Lines.{newline}
+use Rattle.listing.specs.Text.{max_text, size_text}
+use Rattle.listing.specs.Accumulated.{no_bytes, with_bytes, accumulated_size}
+use Rattle.listing.specs.Read.{lines_text, line_after}
+use Rattle.listing.proofs.ReadLaws.{part_ended, part_more}
+use Rattle.listing.specs.Put.{Puts}
+use Rattle.listing.proofs.PutLaws.{put_whole}
+use Rattle.sizing.specs.Print.{printed, Prints}
+
+pub appends_nothing : (held : Option (List ℕ)) → Appends held held []
+appends_nothing None = tt
+appends_nothing (Some bytes) = sym (append-nil bytes)
+
+pub appends_then : (a b c : Option (List ℕ)) (xs ys : List ℕ) → Appends a b xs → Appends b c ys → Appends a c (xs ++ ys)
+appends_then None b c xs ys first second = tt
+appends_then (Some bytes) None c xs ys first second = absurd first
+appends_then (Some bytes) (Some more) None xs ys first second = absurd second
+appends_then (Some bytes) (Some more) (Some most) xs ys first second = second ∙ rw first (append_assoc bytes xs ys)
+
+-- a text that has room is printed whole
+pub put_prints : (held : Option (List ℕ)) {before after : Output} {text : List ℕ} → Puts before text after → before.next + length text ≤ length before.buffer.now → Prints held before text held after
+put_prints None puts h = tt
+put_prints (Some bytes) {before} {after} {text} puts h =
+    rw ((put_whole puts.put h).1) (sym (append_assoc bytes (take before.next before.buffer.now) text))
+
+-- what waited is written, and nothing more is printed
+pub write_prints : (held written : Option (List ℕ)) (before after : Output) → Appends held written (take before.next before.buffer.now) → after.next ≡ 0 → Prints held before [] written after
+write_prints None written before after appends empty = tt
+write_prints (Some bytes) None before after appends empty = absurd appends
+write_prints (Some bytes) (Some more) before after appends empty = rw empty (simp append-nil appends)
+
+-- a text that there was made room for
+pub print_text : (held-before held : Option (List ℕ)) (before : Output) {ready after : Output} {text : List ℕ}
+    → Prints held-before before [] held ready → ready.next + max_text ≤ length ready.buffer.now → Puts ready text after → length text ≤ max_text → Prints held-before before text held after
+print_text held-before held before {ready} {after} {text} made room puts short =
+    appends_then (printed held-before before) (printed held ready) (printed held after) [] text made (put_prints held puts (omega arith))
+
+pub on_ok_both : {T E P Q S : Type 0} (r : Result T E) → (P → Q → S) → OnOk r P → OnOk r Q → OnOk r S
+on_ok_both (Ok x) f p q = f p q
+on_ok_both (Err e) f p q = tt
+
+-- ---- a part of the input, line by line
+
+-- what was printed of the lines of a part, and what is left of it
+pub record Lists (held-before : Option (List ℕ)) (before : Output) (first : Line) (bytes : List ℕ) (held : Option (List ℕ)) (now : Output) (line : Line) (rest : List ℕ) : Type 0 where
+  pub text : List ℕ
+  pub prints : Prints held-before before text held now
+  pub texts : text ++ lines_text standard_page_size line rest ≡ lines_text standard_page_size first bytes
+  pub lines : line_after line rest ≡ line_after first bytes
+
+pub lists_none : (held : Option (List ℕ)) (before : Output) (line : Line) (bytes : List ℕ) → Lists held before line bytes held before line bytes
+lists_none held before line bytes = record { text = []; prints = appends_nothing (printed held before); texts = refl; lines = refl }
+
+module _ {held-before held : Option (List ℕ)} {before now : Output} {first line : Line} {bytes rest : List ℕ} (lists : Lists held-before before first bytes held now line rest) where
+  -- a line more
+  pub lists_line : (i : ℕ) (held-after : Option (List ℕ)) (after : Output) → position (λ byte. byte == newline) rest ≡ Some i
+      → Prints held now (size_text standard_page_size (accumulated_size (with_bytes line (take i rest)))) held-after after
+      → Lists held-before before first bytes held-after after no_bytes (drop (i + 1) rest)
+  lists_line i held-after after found prints =
+      let text : List ℕ = size_text standard_page_size (accumulated_size (with_bytes line (take i rest))) in
+      let ended = part_ended standard_page_size line rest i found in
+      record {
+        text = lists.text ++ text;
+        prints = appends_then (printed held-before before) (printed held now) (printed held-after after) lists.text text lists.prints prints;
+        texts = append_assoc lists.text text (lines_text standard_page_size no_bytes (drop (i + 1) rest)) ∙ rw (← ended.text) lists.texts;
+        lines = sym ended.behind ∙ lists.lines;
+      }
+
+  -- no line more
+  pub lists_rest : position (λ byte. byte == newline) rest ≡ None
+      → (with_bytes line rest ≡ line_after first bytes) × Prints held-before before (lines_text standard_page_size first bytes) held now
+  lists_rest none =
+      let more = part_more standard_page_size line rest none in
+      let all : lists.text ≡ lines_text standard_page_size first bytes = sym (append-nil lists.text) ∙ rw (← more.text) lists.texts in
+      (sym more.behind ∙ lists.lines, rw (← all) lists.prints)

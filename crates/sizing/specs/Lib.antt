@@ -1,0 +1,2 @@
+-- What a printer has printed.
+pub mod Print
