@@ -1,4 +1,4 @@
--- Reading an input in parts, as `sizing` does, prints its listing: what each turn puts, and what is left to print.
+-- Reading an input in parts prints its listing: what each turn puts, and what is left to print.
 use Prim.Native.Nat.{ℕ, suc, ◌+◌, ◌-◌, ◌≤◌, ◌<◌}
 use mathlib.Core.Path.{◌≡◌, refl, sym, ap, ◌∙◌}
 use mathlib.Core.Bool.{cond}

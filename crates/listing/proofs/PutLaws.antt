@@ -28,10 +28,6 @@ sets_then l i xs ys = rw (sets-append l i xs ys) (by (dec_le (length xs) (length
         sets_past (sets l i xs) (i + min (length xs) (length l - i)) ys (omega (arith, length-sets l i xs))
         ∙ sym (sets_past (sets l i xs) (i + length xs) ys (omega (arith, length-sets l i xs)))
 
--- an equal text
-pub put_text : {l m : List ℕ} {i j : ℕ} {xs ys : List ℕ} → Put l i xs m j → xs ≡ ys → Put l i ys m j
-put_text put e = rw e at put
-
 -- one text behind another
 pub put_then : {l m r : List ℕ} {i j k : ℕ} {xs ys : List ℕ} → Put l i xs m j → Put m j ys r k → Put l i (xs ++ ys) r k
 put_then {l} {m} {r} {i} {j} {k} {xs} {ys} first second =

@@ -1,4 +1,4 @@
--- Reading an input in parts prints its listing: what a part adds, line by line, and what all parts make.
+-- Reading an input in parts, as `sizing` does, prints its listing: what a part adds, line by line, and what all parts make.
 use Prim.Native.Nat.{ℕ, suc, ◌+◌, ◌<◌}
 use mathlib.Core.Path.{◌≡◌, refl, sym, ap, ◌∙◌}
 use mathlib.Core.Bool.{Bool, true, false, cond}

@@ -5,18 +5,18 @@ use mathlib.Core.List.{List, [], ◌++◌, append_assoc, append-nil}
 use lib.ListN.{length, take, drop}
 use native.Mathlib.Omega.{arith}
 use Rattle.std.specs.Prelude.{Option, Some, None, Result, Ok, Err, OnOk, position, ◌==◌}
-use Rattle.std.specs.Io.KnownBytes.{append_known, Appends}
+use Rattle.std.specs.Io.KnownBytes.{Appends, Consumes, Keeps}
 use Rattle.listing.specs.declared.text.Output.{Output}
 use Rattle.listing.specs.declared.line.Line.{Line}
 use Rattle.page.specs.PageSize.{standard_page_size}
 use Rattle.listing.specs.Lines.{newline}
-use Rattle.listing.specs.Text.{max_text, size_text}
+use Rattle.listing.specs.Text.{max_text, header, size_text}
 use Rattle.listing.specs.Accumulated.{no_bytes, with_bytes, accumulated_size}
-use Rattle.listing.specs.Read.{lines_text, line_after}
-use Rattle.listing.proofs.ReadLaws.{part_ended, part_more}
+use Rattle.listing.specs.Read.{lines_text, line_after, last_text}
+use Rattle.listing.proofs.ReadLaws.{part_ended, part_more, lines_text-append, line_after-append, listing_read}
 use Rattle.listing.specs.Put.{Puts}
 use Rattle.listing.proofs.PutLaws.{put_whole}
-use Rattle.sizing.specs.Print.{printed, Prints}
+use Rattle.sizing.specs.Print.{printed, Prints, ReadsLines, PrintsListing}
 
 pub appends_nothing : (held : Option (List ℕ)) → Appends held held []
 appends_nothing None = tt
@@ -84,3 +84,73 @@ module _ {held-before held : Option (List ℕ)} {before now : Output} {first lin
       let more = part_more standard_page_size line rest none in
       let all : lists.text ≡ lines_text standard_page_size first bytes = sym (append-nil lists.text) ∙ rw (← more.text) lists.texts in
       (sym more.behind ∙ lists.lines, rw (← all) lists.prints)
+
+-- ---- the input, part by part
+
+consumes_then : (a b c : Option (List ℕ)) (xs ys : List ℕ) → Consumes a b xs → Consumes b c ys → Consumes a c (xs ++ ys)
+consumes_then None b c xs ys first second = tt
+consumes_then (Some bytes) None c xs ys first second = absurd first
+consumes_then (Some bytes) (Some more) None xs ys first second = absurd second
+consumes_then (Some bytes) (Some more) (Some most) xs ys first second = first ∙ rw second (sym (append_assoc xs ys most))
+
+-- a read that failed took nothing
+pub consumes_kept : (before after : Option (List ℕ)) → Keeps before after → Consumes before after []
+consumes_kept None after kept = tt
+consumes_kept (Some bytes) None kept = absurd kept
+consumes_kept (Some bytes) (Some more) kept = sym kept
+
+pub consumes_nothing : (left : Option (List ℕ)) → Consumes left left []
+consumes_nothing None = tt
+consumes_nothing (Some bytes) = refl
+
+-- nothing was read yet
+pub reads_none : (left held : Option (List ℕ)) (before : Output) → ReadsLines left left held before held before no_bytes
+unfolding lines_text line_after
+reads_none left held before =
+    record { read = []; consumes = consumes_nothing left; prints = appends_nothing (printed held before); behind = refl }
+
+module _ {left-before left held-before held : Option (List ℕ)} {before now : Output} {line : Line} (reads : ReadsLines left-before left held-before before held now line) where
+  -- a part more
+  pub reads_part : (part : List ℕ) (left-after held-after : Option (List ℕ)) (after : Output) (behind : Line) → Consumes left left-after part
+      → Prints held now (lines_text standard_page_size line part) held-after after → behind ≡ line_after line part
+      → ReadsLines left-before left-after held-before before held-after after behind
+  reads_part part left-after held-after after behind consumes prints is =
+      let text : List ℕ = lines_text standard_page_size no_bytes reads.read in
+      let more = rw reads.behind at prints in
+      let all = lines_text-append standard_page_size no_bytes reads.read part in
+      record {
+        read = reads.read ++ part;
+        consumes = consumes_then left-before left left-after reads.read part reads.consumes consumes;
+        prints = rw all (appends_then (printed held-before before) (printed held now) (printed held-after after) text (lines_text standard_page_size (line_after no_bytes reads.read) part) reads.prints more);
+        behind = is ∙ rw (reads.behind, line_after-append no_bytes reads.read part);
+      }
+
+  -- nothing more
+  pub reads_end : (left-after : Option (List ℕ)) → Consumes left left-after [] → ReadsLines left-before left-after held-before before held now line
+  unfolding lines_text line_after
+  reads_end left-after consumes = reads_part [] left-after held now line consumes (appends_nothing (printed held now)) refl
+
+-- ---- all of the input
+
+-- what was printed is what the writer holds, once all that waited is written
+written_appends : (held-before held written : Option (List ℕ)) (before now : Output) (text : List ℕ) → Prints held-before before text held now
+    → Appends held written (take now.next now.buffer.now) → Appends (printed held-before before) written text
+written_appends None held written before now text prints appends = tt
+written_appends (Some bytes) None written before now text prints appends = absurd prints
+written_appends (Some bytes) (Some more) None before now text prints appends = absurd appends
+written_appends (Some bytes) (Some more) (Some all) before now text prints appends = appends ∙ prints
+
+pub prints_listing : {left-before left : Option (List ℕ)} (held-before : Option (List ℕ)) (before : Output) {held-headed held-read : Option (List ℕ)} {headed behind : Output} {line : Line} (held-last : Option (List ℕ)) (last : Output) (held : Option (List ℕ))
+    → Prints held-before before header held-headed headed → ReadsLines left-before left held-headed headed held-read behind line
+    → Prints held-read behind (last_text standard_page_size line) held-last last → Appends held-last held (take last.next last.buffer.now)
+    → PrintsListing left-before left held-before before held
+prints_listing held-before before {held-headed} {held-read} {headed} {behind} {line} held-last last held headed-is reads last-is written =
+    let lines : List ℕ = lines_text standard_page_size no_bytes reads.read in
+    let ending : List ℕ = last_text standard_page_size line in
+    let input = appends_then (printed held-headed headed) (printed held-read behind) (printed held-last last) lines ending reads.prints last-is in
+    let all = appends_then (printed held-before before) (printed held-headed headed) (printed held-last last) header (lines ++ ending) headed-is input in
+    record {
+      read = reads.read;
+      consumes = reads.consumes;
+      prints = rw (listing_read standard_page_size reads.read, ← reads.behind) (written_appends held-before held-last held before last (header ++ (lines ++ ending)) all written);
+    }

@@ -4,12 +4,12 @@
 #![tactic(auto)]
 
 ghost use Rattle.std.specs.Prelude.{◌≡◌, ◌+◌, ◌≤◌, List, [], ◌++◌, length, take, OnOk, IfOk};
-ghost use Rattle.std.specs.Io.KnownBytes.{Appends};
+ghost use Rattle.std.specs.Io.KnownBytes.{Appends, Consumes};
 ghost use Rattle.page.specs.PageSize.{standard_page_size};
 ghost use Rattle.listing.specs.Accumulated.{accumulated_size};
 ghost use Rattle.listing.specs.Read.{lines_text, line_after, last_text};
 ghost use Rattle.listing.specs.Text.{max_text, header, size_text};
-ghost use Rattle.sizing.specs.Print.{printed, Prints};
+ghost use Rattle.sizing.specs.Print.{printed, Prints, ReadsLines, PrintsListing};
 
 use listing::line::{Line, first_newline};
 use listing::text::{MAX_TEXT, Output};
@@ -26,8 +26,10 @@ fn main(rt: HostRuntime) {
     let _ = list(&mut rt.stdin(), &mut printer);
 }
 
-// Lists all of the input. Where it cannot be read on, it ends.
-fn list<R: Read, W: Write>(reader: &mut R, printer: &mut Printer<'_, W>) -> io::Result<()> {
+// Lists all of the input.
+fn list<R: Read, W: Write>(reader: &mut R, printer: &mut Printer<'_, W>) -> io::Result<()>
+    ensures { OnOk result (PrintsListing (R.remaining reader.old) (R.remaining reader.new) (W.contents printer.old.writer) printer.old.output (W.contents printer.new.writer)) }
+{
     printer.print_header()?;
     let line = list_input(reader, printer)?;
     printer.print_last(line)?;
@@ -35,18 +37,28 @@ fn list<R: Read, W: Write>(reader: &mut R, printer: &mut Printer<'_, W>) -> io::
 }
 
 // Lists the lines that end, and answers what is accumulated of the last one, which lacks its newline.
-fn list_input<R: Read, W: Write>(reader: &mut R, printer: &mut Printer<'_, W>) -> io::Result<Line> {
+fn list_input<R: Read, W: Write>(reader: &mut R, printer: &mut Printer<'_, W>) -> io::Result<Line>
+    ensures { IfOk result (λ line. ReadsLines (R.remaining reader.old) (R.remaining reader.new) (W.contents printer.old.writer) printer.old.output (W.contents printer.new.writer) printer.new.output line) }
+{
     let mut input = [0u8; 65536];
     let mut line = Line::new();
     // A proved loop has to end, and nothing says that the input does: no run uses up the turns.
     for _ in 0..u64::MAX {
-        let count = reader.read(&mut input).unwrap_or(0);
+        let count = read(reader, &mut input);
         if count == 0 {
             break;
         }
         line = list_lines(printer, line, &input[..count])?;
     }
     Ok(line)
+}
+
+// Reads once. An input that cannot be read ends there.
+fn read<R: Read>(reader: &mut R, input: &mut [u8]) -> usize
+    ensures within { result ≤ length input.new }
+    ensures consumes { Consumes (R.remaining reader.old) (R.remaining reader.new) (take result input.new) }
+{
+    reader.read(input).unwrap_or(0)
 }
 
 // Lists the lines that end in `bytes`, the first of which goes on from `line`, and answers what is accumulated of the one behind them.
@@ -83,6 +95,7 @@ impl<W: Write> Printer<'_, W> {
         Ok(())
     }
 
+    // What is printed for a line.
     fn print_line(&mut self, line: Line) -> io::Result<()>
         ensures { OnOk result (Prints (W.contents self.old.writer) self.old.output (size_text standard_page_size (accumulated_size line)) (W.contents self.new.writer) self.new.output) }
     {
