@@ -16,6 +16,8 @@ use page::size::PAGE_SIZE;
 pub const MAX_TEXT: usize = 64;
 
 // A lent buffer, and the place behind what was put into it. What goes beyond the buffer's end is left out.
+//
+// The `Cursor` of std is such a pair, but its clauses do not say that it keeps the lent buffer, so a caller would not know what is put there.
 #[derive(Drop)]
 pub struct Output<'a> {
     pub buffer: &'a mut [u8],
@@ -62,7 +64,7 @@ impl<'a> Output<'a> {
         self.put(b"size pages cell spare\n");
     }
 
-    // What is printed for a line.
+    // What is printed for a line. The `fmt` of a `Display` may fail, and this may not.
     pub fn put_line(&mut self, line: Line)
         ensures puts { Puts self.old (size_text standard_page_size (accumulated_size line)) self.new }
         ensures short { length (size_text standard_page_size (accumulated_size line)) ≤ max_text }

@@ -9,8 +9,11 @@ ghost use Rattle.page.specs.PageSize.{standard_page_size};
 ghost use Rattle.listing.specs.Accumulated.{accumulated_size};
 ghost use Rattle.listing.specs.Read.{lines_text, line_after, last_text};
 ghost use Rattle.listing.specs.Text.{max_text, header, size_text};
-ghost use Rattle.sizing.specs.Print.{printed, Prints, ReadsLines, PrintsListing};
+ghost use Rattle.sizing.specs.Print.{Prints, ReadsLines, PrintsListing};
 
+mod printer;
+
+use crate::printer::Printer;
 use listing::line::{Line, first_newline};
 use listing::text::{MAX_TEXT, Output};
 use std::io;
@@ -28,7 +31,7 @@ fn main(rt: HostRuntime) {
 
 // Lists all of the input.
 fn list<R: Read, W: Write>(reader: &mut R, printer: &mut Printer<'_, W>) -> io::Result<()>
-    ensures { OnOk result (PrintsListing (R.remaining reader.old) (R.remaining reader.new) (W.contents printer.old.writer) printer.old.output (W.contents printer.new.writer)) }
+    ensures { OnOk result (PrintsListing W.contents (R.remaining reader.old) printer.old (R.remaining reader.new) printer.new) }
 {
     printer.print_header()?;
     let line = list_input(reader, printer)?;
@@ -38,7 +41,7 @@ fn list<R: Read, W: Write>(reader: &mut R, printer: &mut Printer<'_, W>) -> io::
 
 // Lists the lines that end, and answers what is accumulated of the last one, which lacks its newline.
 fn list_input<R: Read, W: Write>(reader: &mut R, printer: &mut Printer<'_, W>) -> io::Result<Line>
-    ensures { IfOk result (λ line. ReadsLines (R.remaining reader.old) (R.remaining reader.new) (W.contents printer.old.writer) printer.old.output (W.contents printer.new.writer) printer.new.output line) }
+    ensures { IfOk result (λ line. ReadsLines W.contents (R.remaining reader.old) printer.old line (R.remaining reader.new) printer.new) }
 {
     let mut input = [0u8; 65536];
     let mut line = Line::new();
@@ -64,7 +67,7 @@ fn read<R: Read>(reader: &mut R, input: &mut [u8]) -> usize
 // Lists the lines that end in `bytes`, the first of which goes on from `line`, and answers what is accumulated of the one behind them.
 fn list_lines<W: Write>(printer: &mut Printer<'_, W>, line: Line, bytes: &[u8]) -> io::Result<Line>
     ensures line { IfOk result (λ behind. behind ≡ line_after line bytes.now) }
-    ensures prints { OnOk result (Prints (W.contents printer.old.writer) printer.old.output (lines_text standard_page_size line bytes.now) (W.contents printer.new.writer) printer.new.output) }
+    ensures prints { OnOk result (Prints W.contents printer.old (lines_text standard_page_size line bytes.now) printer.new) }
 {
     let mut line = line;
     let mut rest = bytes;
@@ -76,19 +79,9 @@ fn list_lines<W: Write>(printer: &mut Printer<'_, W>, line: Line, bytes: &[u8]) 
     Ok(line.with_bytes(rest))
 }
 
-// What is printed: where it goes, and what waits to be written there.
-//
-// A `BufWriter` would do the same with memory of the heap, and the program would rest on the C library's allocation too.
-#[derive(Drop)]
-struct Printer<'a, W> {
-    writer: W,
-    output: Output<'a>,
-    ghost room: { max_text ≤ length output.buffer.now },
-}
-
 impl<W: Write> Printer<'_, W> {
     fn print_header(&mut self) -> io::Result<()>
-        ensures { OnOk result (Prints (W.contents self.old.writer) self.old.output header (W.contents self.new.writer) self.new.output) }
+        ensures { OnOk result (Prints W.contents self.old header self.new) }
     {
         self.make_room()?;
         self.output.put_header();
@@ -97,7 +90,7 @@ impl<W: Write> Printer<'_, W> {
 
     // What is printed for a line.
     fn print_line(&mut self, line: Line) -> io::Result<()>
-        ensures { OnOk result (Prints (W.contents self.old.writer) self.old.output (size_text standard_page_size (accumulated_size line)) (W.contents self.new.writer) self.new.output) }
+        ensures { OnOk result (Prints W.contents self.old (size_text standard_page_size (accumulated_size line)) self.new) }
     {
         self.make_room()?;
         self.output.put_line(line);
@@ -106,7 +99,7 @@ impl<W: Write> Printer<'_, W> {
 
     // The last line, which lacks its newline, if it has a byte.
     fn print_last(&mut self, line: Line) -> io::Result<()>
-        ensures { OnOk result (Prints (W.contents self.old.writer) self.old.output (last_text standard_page_size line) (W.contents self.new.writer) self.new.output) }
+        ensures { OnOk result (Prints W.contents self.old (last_text standard_page_size line) self.new) }
     {
         if line.is_empty() {
             return Ok(());
@@ -117,7 +110,7 @@ impl<W: Write> Printer<'_, W> {
     // Writes what waits where it may leave no room for another text.
     fn make_room(&mut self) -> io::Result<()>
         ensures room { OnOk result (self.new.output.next + max_text ≤ length self.new.output.buffer.now) }
-        ensures prints { OnOk result (Prints (W.contents self.old.writer) self.old.output [] (W.contents self.new.writer) self.new.output) }
+        ensures prints { OnOk result (Prints W.contents self.old [] self.new) }
     {
         if self.output.room() < MAX_TEXT {
             return self.flush();

@@ -4,7 +4,7 @@ use Rattle.std.proofs.Common.{arith}
 use Rattle.listing.proofs.TextLaws.{length_header}
 use Rattle.listing.proofs.PutLaws.{puts_length}
 use Rattle.sizing.proofs.PrintLaws.{print_text}
-use Rattle.sizing.proofs.Printer.print_header.Goals as goal
+use Rattle.sizing.proofs.printer.Printer.print_header.Goals as goal
 
 pub invariant_of-self : goal.invariant_of-self
 invariant_of-self g c = record { room = omega (arith, puts_length c.put_header.ensures) }

@@ -3,7 +3,7 @@
 use Rattle.std.proofs.Common.{arith}
 use Rattle.listing.proofs.PutLaws.{puts_length}
 use Rattle.sizing.proofs.PrintLaws.{print_text}
-use Rattle.sizing.proofs.Printer.print_line.Goals as goal
+use Rattle.sizing.proofs.printer.Printer.print_line.Goals as goal
 
 pub invariant_of-self : goal.invariant_of-self
 invariant_of-self g c = record { room = omega (arith, puts_length c.put_line.ensures.puts) }

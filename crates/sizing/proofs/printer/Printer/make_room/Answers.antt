@@ -1,7 +1,7 @@
 -- `Printer::make_room` meets its contract where it writes: what waited is written, and nothing more is printed.
 -- Assumes nothing.
 use Rattle.sizing.proofs.PrintLaws.{write_prints, on_ok_both}
-use Rattle.sizing.proofs.Printer.make_room.Goals as goal
+use Rattle.sizing.proofs.printer.Printer.make_room.Goals as goal
 
 pub returns-then-room-lt-MAX_TEXT-clause-prints : goal.returns-then-room-lt-MAX_TEXT-clause-prints
 returns-then-room-lt-MAX_TEXT-clause-prints g c =
