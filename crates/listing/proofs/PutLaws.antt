@@ -7,7 +7,6 @@ use native.Mathlib.Omega.{arith}
 use lib.ListN.{length, take, drop, length-append, take-append-drop}
 use lib.Seq.{sets, sets-eq, take_at, length-sets, set_out, length-take-le, take-length}
 use Rattle.laws.proofs.SetsLaws.{sets-append}
-pub use Rattle.laws.proofs.SetsLaws.{part-written as part_written}
 use Rattle.listing.specs.declared.text.Output.{Output}
 use Rattle.listing.specs.Put.{Put, Puts}
 

@@ -9,8 +9,10 @@ ghost use Rattle.listing.specs.Text.{header, number_text, outcome_text, size_tex
 ghost use Rattle.listing.specs.Put.{Puts};
 
 use crate::line::Line;
-use overflow::total::{Totalled, page_total};
-use page::size::PAGE_SIZE;
+use overflow::total::{PageTotal, page_total};
+use page::copy::copy;
+use page::size::PageSize;
+use refusal::Refusal;
 
 // The text of a line that was read has at most so many bytes: `max_text` of specs/Text.
 pub const MAX_TEXT: usize = 64;
@@ -73,27 +75,25 @@ impl<'a> Output<'a> {
             None => self.put(b"bad\n"),
             Some(size) => {
                 self.put_digits(size);
-                self.put_outcome(page_total(PAGE_SIZE, size));
+                self.put_outcome(page_total(PageSize::standard(), size));
                 self.put(b"\n");
             }
         }
     }
 
     // What is printed behind a size.
-    fn put_outcome(&mut self, outcome: Totalled)
+    fn put_outcome(&mut self, outcome: Result<PageTotal, Refusal>)
         ensures { Puts self.old (outcome_text (total_outcome outcome)) self.new }
     {
         match outcome {
-            Totalled::Pages(pages) => {
+            Ok(pages) => {
                 self.put_number(pages.total as u64);
                 self.put_number(pages.cell as u64);
                 self.put_number(pages.spare as u64);
             }
-            Totalled::Refused(refusal) => {
-                let mut values = [0u64; 8];
-                let number = refusal.report(&mut values);
+            Err(refusal) => {
                 self.put(b" refused");
-                self.put_number(number as u64);
+                self.put_number(u32::from(refusal) as u64);
             }
         }
     }
@@ -124,17 +124,8 @@ impl<'a> Output<'a> {
         let room = self.room();
         if room > 0 {
             let n = bytes.len().min(room);
-            write_at(self.buffer, self.next, &bytes[..n]);
+            copy(&bytes[..n], self.buffer, self.next);
             self.next += n;
         }
     }
-}
-
-// Bytes over those from a place on.
-#[tactic(auto, using(crate::proofs::PutLaws::part_written))]
-fn write_at(to: &mut [u8], at: usize, bytes: &[u8])
-    requires { at + length bytes.now ≤ length to.old }
-    ensures { to.new ≡ sets to.old at bytes.now }
-{
-    to[at..at + bytes.len()].copy_from_slice(bytes);
 }

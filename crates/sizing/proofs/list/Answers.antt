@@ -1,5 +1,4 @@
 -- `list` meets its contract: the header, the lines that ended and the last one are the listing of what was read.
--- Assumes nothing.
 use Rattle.std.proofs.lemmas.Result.{on_ok_weaker}
 use Rattle.sizing.proofs.PrintLaws.{prints_listing}
 use Rattle.sizing.proofs.list.Goals as goal

@@ -1,5 +1,4 @@
 -- `list_input` meets its contract: each turn reads a part and prints its lines, and a turn that reads nothing leaves what was read as it is.
--- Assumes nothing.
 use Rattle.std.proofs.Common.{take}
 use Rattle.sizing.proofs.PrintLaws.{reads_none, reads_part, reads_end}
 use Rattle.sizing.proofs.list_input.Goals as goal

@@ -1,5 +1,4 @@
 -- `list_input` meets its contract. The invariant: the lines of what was read are printed.
--- Assumes nothing.
 use Rattle.sizing.specs.Print.{ReadsLinesOn}
 use Rattle.sizing.proofs.list_input.Given as goal
 

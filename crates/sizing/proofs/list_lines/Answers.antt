@@ -1,5 +1,4 @@
 -- `list_lines` meets its contract: each turn prints a line, and behind the last newline the rest is accumulated.
--- Assumes nothing.
 use Rattle.std.proofs.Common.{rules, ◌+◌, ◌∙◌, sym}
 use Rattle.std.proofs.lemmas.List.{take_rest}
 use Rattle.sizing.proofs.PrintLaws.{lists_line, lists_rest}

@@ -1,6 +1,5 @@
 -- `list_lines` meets its contract. The invariant: what was printed, with what the rest prints, is what the part prints; and the rest is no longer than
 -- the part. The measure is what is left of the bytes.
--- Assumes nothing.
 use Rattle.std.proofs.Common.{◌≤◌, length}
 use Rattle.sizing.proofs.PrintLaws.{Lists}
 use Rattle.sizing.proofs.list_lines.Given as goal

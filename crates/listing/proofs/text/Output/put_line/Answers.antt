@@ -1,6 +1,4 @@
 -- `put_line` meets its contract: in each arm the size is known, and its text is put part by part.
--- Assumes nothing.
-use Rattle.page.proofs.PageSizeLaws.{standard-bytes}
 use Rattle.listing.specs.Text.{size_text}
 use Rattle.listing.proofs.PutLaws.{puts_then}
 use Rattle.listing.proofs.TextLaws.{length_size, length_bad}
@@ -13,7 +11,7 @@ returns-in-None-clause-puts c = rw (← c.in-None.ensures) c.put.ensures
 pub returns-in-Some-clause-puts : goal.returns-in-Some-clause-puts
 unfolding size_text
 returns-in-Some-clause-puts c =
-    let total = rw standard-bytes at c.page_total.ensures in
+    let total = rw c.standard.ensures at c.page_total.ensures in
     rw (← c.in-Some.ensures, ← total) (puts_then c.put_digits.ensures.puts (puts_then c.put_outcome.ensures c.put-in-Some.ensures))
 
 pub returns-in-None-clause-short : goal.returns-in-None-clause-short

@@ -1,5 +1,4 @@
 -- `put_number` meets its contract: a space, then the digits.
--- Assumes nothing.
 use Rattle.listing.specs.Text.{number_text}
 use Rattle.listing.proofs.PutLaws.{puts_then}
 use Rattle.listing.proofs.text.Output.put_number.Goals as goal

@@ -1,5 +1,4 @@
 -- `Printer::make_room` meets its contract where it writes: what waited is written, and nothing more is printed.
--- Assumes nothing.
 use Rattle.sizing.proofs.PrintLaws.{write_prints, on_ok_both}
 use Rattle.sizing.proofs.printer.Printer.make_room.Goals as goal
 

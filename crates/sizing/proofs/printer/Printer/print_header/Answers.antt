@@ -1,5 +1,4 @@
 -- `Printer::print_header` meets its contract: there is room for the header, and the buffer keeps its length.
--- Assumes nothing.
 use Rattle.std.proofs.Common.{arith}
 use Rattle.listing.proofs.TextLaws.{length_header}
 use Rattle.listing.proofs.PutLaws.{puts_length}

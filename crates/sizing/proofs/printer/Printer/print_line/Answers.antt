@@ -1,5 +1,4 @@
 -- `Printer::print_line` meets its contract: there is room for a line's text, and the buffer keeps its length.
--- Assumes nothing.
 use Rattle.std.proofs.Common.{arith}
 use Rattle.listing.proofs.PutLaws.{puts_length}
 use Rattle.sizing.proofs.PrintLaws.{print_text}
