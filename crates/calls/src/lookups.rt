@@ -1,9 +1,30 @@
 // Page lookup: where a page lies, in the pending pages of a save or in the store.
-ghost use Rattle.calls.specs.Lookups.{LooksUp};
+ghost use Rattle.lookup.specs.Lookup.{place_told};
+ghost use Rattle.calls.specs.Lookups.{place_values, LooksUp};
 
-use lookup::find::{Located, find};
+use crate::told::{Told, report};
+use lookup::find::{Pending, Place, find};
 use page::number::PageNumber;
 use page::size::PageSize;
+use page::store::Store;
+
+// 0 for the pending pages or 1 for the store, and the byte there.
+impl Told for Place {
+    ghost values = { λ p. place_values (place_told p) };
+
+    fn tell(self, out: &mut [u64; 8]) {
+        match self {
+            Place::Pending(at) => {
+                out[0] = 0;
+                out[1] = at as u64;
+            }
+            Place::Store(at) => {
+                out[0] = 1;
+                out[1] = at as u64;
+            }
+        }
+    }
+}
 
 // out: 0 for the pending pages or 1 for the store, the byte there at which the page starts. Refusal 15: the page.
 pub fn lookup(
@@ -16,17 +37,10 @@ pub fn lookup(
 ) -> u32
     ensures { LooksUp page_size numbers pending store page out result }
 {
-    match find(page_size, numbers, pending, store, PageNumber(page)) {
-        Located::Pending(at) => {
-            out[0] = 0;
-            out[1] = at as u64;
-            0
-        }
-        Located::Store(at) => {
-            out[0] = 1;
-            out[1] = at as u64;
-            0
-        }
-        Located::Refused(r) => r.report(out),
-    }
+    let store = Store::new(page_size, store);
+    let pending = Pending {
+        numbers,
+        pages: pending,
+    };
+    report(find(&store, &pending, PageNumber(page)), out)
 }
