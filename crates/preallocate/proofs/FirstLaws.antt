@@ -3,23 +3,23 @@
 use Prim.Native.Nat.{ℕ, zero, suc, ◌+◌, ◌-◌, ◌*◌, ◌^◌, ◌≤◌, ◌<◌}
 use native.Mathlib.Nat.{div-mul-le_self}
 use native.Mathlib.Omega.{arith}
-use mathlib.Core.Path.{◌≡◌, refl}
+use mathlib.Core.Path.{◌≡◌, refl, ◌∙◌}
 use mathlib.Core.Logic.{◌≢◌}
 use mathlib.Core.List.{List, [], ◌∷◌, reverse}
-use mathlib.Core.Bool.{true, false, ◌&&◌}
+use mathlib.Core.Bool.{Bool, true, false, ◌&&◌, cond}
 use lib.ListN.{length, drop, length-append, length-drop, length-reverse}
-use lib.Seq.{length-take-le}
 use lib.Dec.{leb, eqb}
-use borrow.Author.Tests.{leb-false, le-leb, lt-leb, eqb-true, eqb-false, eq-eqb, ne_eqb}
+use borrow.Author.Tests.{leb-false, le-leb, lt-leb, eqb-true, eqb-false}
 use Rattle.laws.proofs.Tests.{cond_cases, and-true}
 use Rattle.page.specs.PageSize.{most_entries, IsPageSize, capacity}
 use Rattle.page.specs.Growth.{max_bump}
 use Rattle.free_list.specs.Shape.{FreeList, is_shape, is_fragmented}
 use Rattle.free_list.proofs.BelowLaws.{fragmented_is}
-use Rattle.preallocate.specs.Plan.{Plan, page_number, pages_after, pushed_after, none_left, renumbered, mended, emptied, first_plan}
+use Rattle.preallocate.specs.Plan.{Plan, page_number, entry, pages_after, pushed_after, none_left, renumbered, mended, emptied, first_plan}
 use Rattle.preallocate.specs.declared.turns.Plan.{Plan as Counts}
-use Rattle.preallocate.specs.Counts.{counts, table_list, Poppable, Planable}
-use Rattle.preallocate.specs.Steps.{room_of, Packed, Small}
+use Rattle.preallocate.specs.Lists.{Shapely}
+use Rattle.preallocate.specs.Counts.{counts, Poppable, Told, Makes}
+use Rattle.preallocate.specs.Steps.{first_popped, first_names, room_of, Packed, Small, Started}
 use Rattle.laws.proofs.ProductLaws.{times_less, times_positive}
 use Rattle.free_list.proofs.ShapeLaws.{shaped}
 use Rattle.preallocate.proofs.PagesForLaws.{pages_for_enough, pages_for_tight, pages_for_least, head_some}
@@ -71,17 +71,6 @@ module _ (c : ℕ) (l : FreeList) (k : ℕ) (freed : List ℕ) (bump : ℕ) wher
         → first_plan c l k freed bump ≡ mended c l (length l.entries - suc k) (pushed_after c l k freed) bump
     unfolding first_plan
     first-mends e = rw (lt-leb _ _ some, e)
-
-    module _ (whole : eqb k 0 && is_fragmented c (length l.pages) (length l.entries) ≡ false) where
-      pub first-empties : length l.entries - suc k ≡ c * (pages_after c l k - 1)
-          → first_plan c l k freed bump ≡ emptied c l (pages_after c l k) (length l.entries - suc k) (pushed_after c l k freed) bump
-      unfolding first_plan
-      first-empties e = rw (lt-leb _ _ some, whole, eq-eqb _ _ e)
-
-      pub first-renumbers : length l.entries - suc k ≢ c * (pages_after c l k - 1)
-          → first_plan c l k freed bump ≡ renumbered c l (pages_after c l k) (length l.entries - suc k) (pushed_after c l k freed) bump
-      unfolding first_plan
-      first-renumbers e = rw (lt-leb _ _ some, whole, ne_eqb _ _ e)
 
 -- ---- the first plan
 
@@ -176,24 +165,34 @@ pub capacity_fits : {s : ℕ} → IsPageSize s → capacity s ≤ most_entries
 unfolding capacity
 capacity_fits {s} size = omega (arith, size.limit, div-mul-le_self (s - 6) 4)
 
--- the tables, cut to the list
-pub cut_poppable : {s : ℕ} {pages entries : List ℕ} {P L k bump : ℕ} → Planable s pages entries P L k bump
-    → {c : ℕ} → c ≡ capacity s → Poppable c (table_list pages entries P L) k bump
-cut_poppable {s} {pages} {entries} {P} {L} {k} {bump} a e =
-    let p = length-take-le P pages a.pages_fit in
-    let n = length-take-le L entries a.entries_fit in
-    rw e (
-    record {
-      two_entries = a.size.two_entries;
-      capacity_fits = capacity_fits a.size;
-      shape = rw (p, n) a.shape;
-      pops = rw n a.pops;
-      bumps = a.bumps;
-    }
-    )
-
-pub first_ready : {c : ℕ} {l : FreeList} {k bump : ℕ} → Poppable c l k bump → (freed : List ℕ)
+-- turns may follow the first pop
+pub first_started : {s c : ℕ} {l : FreeList} {k bump : ℕ} → Shapely s c l → Poppable l k bump → (freed : List ℕ)
     → length freed < 2 ^ 61 → length l.pages < 2 ^ 61 → length l.entries < 2 ^ 61
-    → {q : Counts} → q ≡ counts (first_plan c l k freed bump) → Packed c l q × Small c q
-first_ready {c} {l} {k} {bump} a freed f p n e =
-    rw e ((first c l a.two_entries a.shape k freed bump).packed, first_small c l a.two_entries a.shape k freed bump a.capacity_fits f p n a.bumps)
+    → {before : List ℕ} {r : Counts} {after : List ℕ} → Makes (first_plan (capacity s) l k freed bump) before r after
+    → Started (capacity s) l (first_plan (capacity s) l k freed bump) before r after
+first_started {s} {c} {l} {k} {bump} a may freed f p n made =
+    record {
+      made = made;
+      packed = rw made.counted (first (capacity s) l a.size.two_entries a.shape k freed bump).packed;
+      small = rw made.counted (first_small (capacity s) l a.size.two_entries a.shape k freed bump (capacity_fits a.size) f p n may.bumps);
+    }
+
+-- the two cases of a list that is not mended, in numbers
+pub first_counted : (c : ℕ) (l : FreeList) (k : ℕ) (freed : List ℕ) (bump : ℕ) {p n : ℕ} → k < length l.entries
+    → eqb k 0 && is_fragmented c (length l.pages) (length l.entries) ≡ false → p ≡ pages_after c l k → n ≡ length l.entries - suc k
+    → {none : Counts} → none ≡ counts (none_left c l (pushed_after c l k freed) bump)
+    → {before : List ℕ} {r : Counts} {after : List ℕ} → Told (first_popped c l p n none) 0 (first_names c l p n) before r after
+    → Makes (first_plan c l k freed bump) before r after
+unfolding first_plan
+first_counted c l k freed bump {p} {n} some whole kept left {none} is {before} {r} {after} told =
+    rw (lt-leb _ _ some, whole, ← kept, ← left) (go (eqb n (c * (p - 1))) (rw is at told))
+  where
+    pushed : List ℕ
+    pushed = pushed_after c l k freed
+
+    go : (b : Bool)
+        → Told (cond b (record { pages = p - 1; entries = n; pushed = length pushed + 1; fresh = 1; bump = bump; top = page_number c l (p - 2) })
+        (record { pages = p; entries = n; pushed = length pushed + 1; fresh = 0; bump = bump; top = entry c l n })) 0 (cond b (entry c l n ∷ []) []) before r after
+        → Makes (cond b (emptied c l p n pushed bump) (renumbered c l p n pushed bump)) before r after
+    go true t = record { counted = t.counted ∙ rw (length-append pushed (page_number c l (p - 1) ∷ [])); named = t.named }
+    go false t = record { counted = t.counted ∙ rw (length-append pushed (page_number c l (p - 1) ∷ [])); named = t.named }

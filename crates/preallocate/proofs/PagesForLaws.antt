@@ -1,10 +1,11 @@
 -- How many pages hold n entries, by division; and what is known of a list that is fragmented, and of one that is not.
-use Prim.Native.Nat.{ℕ, zero, suc, ◌+◌, ◌-◌, ◌*◌, ◌/◌, ◌≤◌, ◌<◌}
-use native.Mathlib.Nat.{lt-div-mul-add, div-lt_iff_lt-mul, mul-div-le}
+use Prim.Native.Nat.{ℕ, zero, suc, ◌+◌, ◌-◌, ◌*◌, ◌/◌, ◌%◌, min, ◌≤◌, ◌<◌}
+use native.Mathlib.Nat.{mul_comm, lt-div-mul-add, le-div_iff_mul-le, div-lt_iff_lt-mul, mul-div-le}
 use native.Mathlib.Omega.{arith}
 use mathlib.Core.Path.{◌≡◌}
 use mathlib.Core.Bool.{true, false, ◌&&◌}
 use lib.Dec.{eqb}
+use Rattle.std.proofs.lemmas.Grind.{div_ceil_times}
 use Rattle.laws.proofs.ProductLaws.{times_less}
 use Rattle.laws.proofs.Tests.{and-true}
 use Rattle.free_list.specs.Shape.{is_fragmented}
@@ -28,6 +29,15 @@ unfolding pages_for
 pages_for_least c n m h le =
     let lt : (n + (c - 1)) / c < suc m = (div-lt_iff_lt-mul {k = c} {x = n + (c - 1)} {y = suc m} h).1 (omega arith) in
     omega arith
+
+-- a quotient that is rounded up is that number
+pub pages_for_ceil : (c n : ℕ) → 1 ≤ c → n / c + min 1 (n % c) ≡ pages_for c n
+unfolding pages_for
+pages_for_ceil c n h =
+    let x = n / c + min 1 (n % c) in
+    let t = div_ceil_times n c h in
+    let below : x ≤ (n + (c - 1)) / c = (le-div_iff_mul-le {k = c} {x = x} {y = n + (c - 1)} h).1 (omega (arith, t.1)) in
+    omega (arith, below, pages_for_least c n x h (omega (arith, t.0, mul_comm c x)))
 
 -- ---- fragmented lists
 

@@ -3,7 +3,8 @@
 use Rattle.std.specs.Prelude.{ℕ, zero, suc, ◌+◌, ◌-◌, ◌*◌, ◌^◌, ◌≤◌, ◌<◌, List, [], ◌∷◌, ◌++◌, Bool, true, false, cond, ◌&&◌, length, get_or, leb, ltb, eqb}
 use Rattle.free_list.specs.Shape.{FreeList}
 use Rattle.page.specs.PageSize.{most_entries}
-use Rattle.preallocate.specs.Counts.{Told}
+use Rattle.preallocate.specs.Plan.{Plan}
+use Rattle.preallocate.specs.Counts.{Told, Makes}
 use Rattle.preallocate.specs.declared.turns.Plan.{Plan as Counts}
 
 abbrev pub room_of : ℕ → Counts → ℕ
@@ -16,6 +17,27 @@ whole_of c p = leb 1 p.pages && eqb p.entries (c * p.pages)
 -- the top page has one entry
 abbrev pub last_of : ℕ → Counts → Bool
 last_of c p = eqb (p.entries - 1) (c * (p.pages - 1))
+
+-- ---- the first number popped
+
+-- n entries are left of those on p pages, and the list is not mended; `none` has what is pushed before. Its page is emptied, or it becomes
+-- that page's number
+abbrev pub first_popped : ℕ → FreeList → ℕ → ℕ → Counts → Counts
+first_popped c l p n none =
+    cond (eqb n (c * (p - 1)))
+    (record { pages = p - 1; entries = n; pushed = none.pushed + 1; fresh = 1; bump = none.bump; top = get_or l.pages (p - 2) 0 })
+    (record { pages = p; entries = n; pushed = none.pushed + 1; fresh = none.fresh; bump = none.bump; top = get_or l.entries n 0 })
+
+abbrev pub first_names : ℕ → FreeList → ℕ → ℕ → List ℕ
+first_names c l p n = cond (eqb n (c * (p - 1))) (get_or l.entries n 0 ∷ []) []
+
+-- it can be popped
+pub record FirstPoppable (c : ℕ) (l : FreeList) (p n : ℕ) (none : Counts) : Type 0 where
+  pub some : 1 ≤ p
+  pub pages_fit : p ≤ length l.pages
+  pub entries_fit : n < length l.entries
+  pub product : c * p < 2 ^ 64
+  pub pushes : none.pushed + 1 < 2 ^ 64
 
 -- ---- one turn
 
@@ -96,9 +118,19 @@ pub record Due (c : ℕ) (l : FreeList) (p : Counts) : Type 0 where
 
 -- ---- what the code says of its turns
 
+-- the first number is popped, and turns may follow
+pub record Started (c : ℕ) (l : FreeList) (first : Plan) (before : List ℕ) (r : Counts) (after : List ℕ) : Type 0 where
+  pub made : Makes first before r after
+  pub packed : Packed c l r
+  pub small : Small c r
+
 -- a page is taken
 abbrev pub Took : ℕ → FreeList → Counts → List ℕ → Counts → List ℕ → Type 0
 Took c l p before r after = Told (taken c l p) p.fresh (named c l p) before r after
+
+-- a turn is taken
+abbrev pub Turned : ℕ → FreeList → Counts → List ℕ → Counts → List ℕ → Type 0
+Turned c l p before r after = Told (stepped c l p) p.fresh (step_names c l p) before r after
 
 -- all turns are taken, at any bound on the turns that is enough
 unfoldable pub Planned : ℕ → FreeList → Counts → List ℕ → Counts → List ℕ → Type 0

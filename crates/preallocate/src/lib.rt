@@ -3,5 +3,6 @@
 // Nothing is written to the list here. With an empty slice for the new pages' numbers this is the dry run, which only counts.
 #![tactic(auto)]
 
+pub mod list;
 pub mod plan;
 pub mod turns;

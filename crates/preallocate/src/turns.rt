@@ -1,4 +1,4 @@
-// The turns that a finish takes while its room is short of the push list: swapping the head and taking a page hand over to each other.
+// The turns that a finish takes while its room is short of the push list: it swaps the head, or takes a page.
 //
 // In nomt's words, beside ours: what a save pops is first dropped from the list (`discard`; ours: `popped`), and `commit` then makes the
 // new list: `preallocate` (ours: `plan`) finds out by `pop` (`take_one`, `swap_head`) how many new list pages it takes, and
@@ -12,9 +12,12 @@
 // which is then changed too, and whose number joins the push list: so pushes make pops and pops make pushes, and the turns go on until
 // the room is enough. Where one place is missing, the pop that gets a new page frees a place too, so that one page more is there than is
 // needed: that list is *fragmented*, its head has one entry and the page under it one less than it could. The next save mends it.
-ghost use Rattle.std.specs.Prelude.{◌≡◌, true, false, List, [], ◌∷◌, ℕ, ◌+◌, ◌*◌, ◌^◌, ◌≤◌, ◌<◌, ◌-◌, length, set, get_or};
-ghost use Rattle.preallocate.specs.Counts.{whole_list, narrow, Told};
-ghost use Rattle.preallocate.specs.Steps.{room_of, whole_of, bump_taken, entry_taken, last_taken, Packed, Small, Due, Took, Planned};
+ghost use Rattle.std.specs.Prelude.{◌≡◌, true, [], ◌∷◌, ◌+◌, ◌*◌, ◌^◌, ◌≤◌, ◌<◌, ◌-◌, length, set, get_or};
+ghost use Rattle.page.specs.PageSize.{capacity};
+ghost use Rattle.preallocate.specs.Counts.{narrow, Told};
+ghost use Rattle.preallocate.specs.Steps.{room_of, whole_of, top_swapped, bump_taken, Packed, Small, Due, Took, Turned, Planned};
+
+use crate::list::LentList;
 
 // How far a finish has come, in numbers.
 #[derive(Clone, Copy)]
@@ -29,38 +32,15 @@ pub struct Plan {
     pub fresh: usize,
     // The next number past the list. A plan is made even where it is past 32 bits, and then refused.
     pub bump: usize,
-    // The number of the top page kept.
+    // The number of the top page kept. Where none is kept nothing reads it, and it is 0, which is no page.
     pub top: u32,
-}
-
-// Free places in the top page, and `c` for each new page.
-fn room(c: usize, p: Plan) -> usize
-    requires { (p.pages + p.fresh < 2 ^ 64) × (p.entries ≤ c * (p.pages + p.fresh)) × (c * (p.pages + p.fresh) < 2 ^ 64) }
-    ensures { result ≡ room_of c p }
-{
-    c * (p.pages + p.fresh) - p.entries
-}
-
-// Whether a whole page has come to the top.
-fn whole(c: usize, p: Plan) -> bool
-    requires { c * p.pages < 2 ^ 64 }
-    ensures { result ≡ whole_of c p }
-{
-    1 <= p.pages && p.entries == c * p.pages
-}
-
-// The number of the page under the top one of `kept` pages; where there is none, that page's own.
-pub(crate) fn under(pages: &[u32], kept: usize) -> u32
-    requires { (1 ≤ kept) × (kept ≤ length pages.now) }
-    ensures { result ≡ get_or pages.now (kept - 2) 0 }
-{
-    if kept < 2 { pages[0] } else { pages[kept - 2] }
 }
 
 // Stores x at i, where that is within `out`.
 pub(crate) fn put(out: &mut [u32], i: usize, x: u32)
     ensures { out.new ≡ set out.old i x }
 {
+    // What is written through `get_mut` is not known afterwards, so the place is compared with the length.
     if i < out.len() {
         out[i] = x;
     }
@@ -70,7 +50,7 @@ pub(crate) fn put(out: &mut [u32], i: usize, x: u32)
 fn low(x: usize) -> u32
     ensures { result ≡ narrow x }
 {
-    if x < 4294967296 { x as u32 } else { 0 }
+    u32::try_from(x).unwrap_or(0)
 }
 
 // Takes the bump as a new page.
@@ -80,115 +60,111 @@ fn take_bump(out: &mut [u32], p: Plan) -> Plan
 {
     put(out, p.fresh, low(p.bump));
     Plan {
-        pages: p.pages,
-        entries: p.entries,
-        pushed: p.pushed,
         fresh: p.fresh + 1,
         bump: p.bump + 1,
-        top: p.top,
+        ..p
     }
 }
 
-// The last entry is taken.
-fn entry_taken(p: Plan) -> Plan
-    requires { (1 ≤ p.entries) × (p.fresh + 1 < 2 ^ 64) }
-    ensures { result ≡ entry_taken p }
-{
-    Plan {
-        pages: p.pages,
-        entries: p.entries - 1,
-        pushed: p.pushed,
-        fresh: p.fresh + 1,
-        bump: p.bump,
-        top: p.top,
+impl<'a> LentList<'a> {
+    // Free places in the top page, and a page's capacity for each new page.
+    fn room(&self, p: Plan) -> usize
+        requires { Small (capacity self.now.page_size) p × Packed (capacity self.now.page_size) self.now.list p }
+        ensures { result ≡ room_of (capacity self.now.page_size) p }
+    {
+        self.capacity * (p.pages + p.fresh) - p.entries
     }
-}
 
-// The last entry is taken, and with it the page that this leaves empty.
-fn last_taken(pages: &[u32], p: Plan) -> Plan
-    requires { (1 ≤ p.entries) × (p.fresh + 2 < 2 ^ 64) × (1 ≤ p.pages) × (p.pages ≤ length pages.now) }
-    ensures { (entries : List ℕ) → result ≡ last_taken (whole_list pages.now entries) p }
-{
-    Plan {
-        pages: p.pages - 1,
-        entries: p.entries - 1,
-        pushed: p.pushed,
-        fresh: p.fresh + 2,
-        bump: p.bump,
-        top: under(pages, p.pages),
+    // Whether a whole page has come to the top.
+    fn is_whole(&self, p: Plan) -> bool
+        requires { capacity self.now.page_size * p.pages < 2 ^ 64 }
+        ensures { result ≡ whole_of (capacity self.now.page_size) p }
+    {
+        1 <= p.pages && p.entries == self.capacity * p.pages
     }
-}
 
-// Takes the last entry, and with it the page that this leaves empty.
-fn take_entry(c: usize, pages: &[u32], entries: &[u32], out: &mut [u32], p: Plan) -> Plan
-    requires { Due c (whole_list pages.now entries.now) p × (1 ≤ p.entries) }
-    ensures { Took c (whole_list pages.now entries.now) p out.old result out.new }
-{
-    let last = p.entries - 1;
-    put(out, p.fresh, entries[last]);
-    if last == c * (p.pages - 1) {
-        put(out, p.fresh + 1, p.top);
-        return last_taken(pages, p);
-    }
-    entry_taken(p)
-}
-
-// Takes one page: the last entry, or else the bump.
-fn take_one(c: usize, pages: &[u32], entries: &[u32], out: &mut [u32], p: Plan) -> Plan
-    requires { Due c (whole_list pages.now entries.now) p }
-    ensures { Took c (whole_list pages.now entries.now) p out.old result out.new }
-{
-    if p.entries < 1 {
-        return take_bump(out, p);
-    }
-    take_entry(c, pages, entries, out, p)
-}
-
-// Swaps the head: the top page's number joins the push list and its last entry becomes its number. Then a page is taken.
-#[cycle(swap_head_take_page)]
-fn swap_head(c: usize, pages: &[u32], entries: &[u32], out: &mut [u32], p: Plan) -> Plan
-    requires { Due c (whole_list pages.now entries.now) p × (whole_of c p ≡ true) }
-    ensures { Planned c (whole_list pages.now entries.now) p out.old result out.new }
-{
-    let last = p.entries - 1;
-    let swapped = Plan {
-        pages: p.pages,
-        entries: last,
-        pushed: p.pushed + 1,
-        fresh: p.fresh,
-        bump: p.bump,
-        top: entries[last],
-    };
-    take_page(c, pages, entries, out, swapped)
-}
-
-// Takes pages until the room is enough, or until a whole page comes to the top: then the head is swapped.
-#[cycle(swap_head_take_page)]
-fn take_page(c: usize, pages: &[u32], entries: &[u32], out: &mut [u32], p: Plan) -> Plan
-    requires { Due c (whole_list pages.now entries.now) p × (whole_of c p ≡ false) }
-    ensures { Planned c (whole_list pages.now entries.now) p out.old result out.new }
-{
-    let mut q = take_one(c, pages, entries, out, p);
-    while room(c, q) < q.pushed {
-        if whole(c, q) {
-            return swap_head(c, pages, entries, out, q);
+    // Swaps the head: the top page's number joins the push list, and its last entry becomes its number.
+    fn swap_head(&self, p: Plan) -> Plan
+        requires { (1 ≤ p.entries) × (p.entries ≤ length self.now.list.entries) × (p.pushed + 1 < 2 ^ 64) }
+        ensures { result ≡ top_swapped self.now.list p }
+    {
+        let last = p.entries - 1;
+        let entries = self.entries;
+        Plan {
+            entries: last,
+            pushed: p.pushed + 1,
+            top: entries[last],
+            ..p
         }
-        q = take_one(c, pages, entries, out, q);
     }
-    q
-}
 
-// Goes on from where the plan stands until the room is enough.
-pub(crate) fn make_room(c: usize, pages: &[u32], entries: &[u32], out: &mut [u32], p: Plan) -> Plan
-    requires { Packed c (whole_list pages.now entries.now) p × Small c p }
-    ensures { Planned c (whole_list pages.now entries.now) p out.old result out.new }
-{
-    if p.pushed <= room(c, p) {
-        return p;
+    // The number of the page under the top one of `kept` pages; where there is none, that page's own.
+    pub(crate) fn under_top(&self, kept: usize) -> u32
+        requires { (1 ≤ kept) × (kept ≤ length self.now.list.pages) }
+        ensures { result ≡ get_or self.now.list.pages (kept - 2) 0 }
+    {
+        let pages = self.pages;
+        pages[kept.saturating_sub(2)]
     }
-    if whole(c, p) {
-        swap_head(c, pages, entries, out, p)
-    } else {
-        take_page(c, pages, entries, out, p)
+
+    // Takes the last entry, and with it the page that this leaves empty.
+    fn take_entry(&self, out: &mut [u32], p: Plan) -> Plan
+        requires { Due (capacity self.now.page_size) self.now.list p × (1 ≤ p.entries) }
+        ensures { Took (capacity self.now.page_size) self.now.list p out.old result out.new }
+    {
+        let entries = self.entries;
+        let last = p.entries - 1;
+        put(out, p.fresh, entries[last]);
+        if last != self.capacity * (p.pages - 1) {
+            return Plan {
+                entries: last,
+                fresh: p.fresh + 1,
+                ..p
+            };
+        }
+        put(out, p.fresh + 1, p.top);
+        Plan {
+            pages: p.pages - 1,
+            entries: last,
+            fresh: p.fresh + 2,
+            top: self.under_top(p.pages),
+            ..p
+        }
+    }
+
+    // Takes a page: the last entry, or else the bump.
+    fn take_page(&self, out: &mut [u32], p: Plan) -> Plan
+        requires { Due (capacity self.now.page_size) self.now.list p }
+        ensures { Took (capacity self.now.page_size) self.now.list p out.old result out.new }
+    {
+        if p.entries == 0 {
+            take_bump(out, p)
+        } else {
+            self.take_entry(out, p)
+        }
+    }
+
+    // One turn: where a whole page has come to the top the head is swapped, else a page is taken.
+    fn turn(&self, out: &mut [u32], p: Plan) -> Plan
+        requires { Due (capacity self.now.page_size) self.now.list p }
+        ensures { Turned (capacity self.now.page_size) self.now.list p out.old result out.new }
+    {
+        if self.is_whole(p) {
+            self.swap_head(p)
+        } else {
+            self.take_page(out, p)
+        }
+    }
+
+    // Takes turns from where the plan stands until the room is enough.
+    pub(crate) fn make_room(&self, out: &mut [u32], first: Plan) -> Plan
+        requires { Packed (capacity self.now.page_size) self.now.list first × Small (capacity self.now.page_size) first }
+        ensures { Planned (capacity self.now.page_size) self.now.list first out.old result out.new }
+    {
+        let mut p = first;
+        while self.room(p) < p.pushed {
+            p = self.turn(out, p);
+        }
+        p
     }
 }
