@@ -2,6 +2,7 @@
 pub mod PagesForLaws
 pub mod StepsLaws
 pub mod FirstLaws
+pub mod ShapelyLaws
 pub mod PlanLaws
 pub mod CasesLaws
 pub mod SomeLaws

@@ -1,7 +1,6 @@
 -- The turns in numbers: what each keeps, that the work falls, and how a turn's numbers join those of the turns after it.
 -- By cases of a turn; the products are `omega`'s. Assumes nothing.
 use Prim.Native.Nat.{ℕ, zero, suc, ◌+◌, ◌-◌, ◌*◌, ◌^◌, ◌≤◌, ◌<◌}
-use native.Mathlib.Nat.{add-zero}
 use native.Mathlib.Omega.{arith}
 use native.Mathlib.Numerals.{add-one}
 use mathlib.Core.Path.{◌≡◌, refl, sym, ap, ◌∙◌}
@@ -11,13 +10,13 @@ use mathlib.Core.Bool.{Bool, true, false, cond}
 use lib.ListN.{length, set, get_or, length-map}
 use lib.Seq.{sets}
 use lib.Dec.{leb, eqb}
-use borrow.Author.Tests.{lt-ltb, le-ltb, leb-true, leb-false, eqb-true, eqb-false}
+use borrow.Author.Tests.{lt-ltb, le-ltb, le-leb, ne_eqb, leb-true, leb-false, eqb-true, eqb-false}
 use Rattle.laws.proofs.Tests.{and-true}
 use Rattle.laws.proofs.SetsLaws.{sets-append}
 use Rattle.free_list.specs.Shape.{FreeList}
 use Rattle.preallocate.specs.declared.turns.Plan.{Plan as Counts}
 use Rattle.preallocate.specs.Counts.{narrow}
-use Rattle.preallocate.specs.Steps.{room_of, whole_of, last_of, top_swapped, bump_taken, entry_taken, last_taken, taken, named, stepped, step_names, planned, new_pages, work, Packed, Small, Short, Turned, Planned}
+use Rattle.preallocate.specs.Steps.{room_of, whole_of, last_of, top_swapped, bump_taken, entry_taken, last_taken, taken, named, stepped, step_names, planned, new_pages, work, Packed, Small, Short, Due, Took, Planned}
 use Rattle.laws.proofs.ProductLaws.{times_less, times_positive, times_least}
 
 -- ---- the cases of a turn
@@ -78,6 +77,9 @@ module _ {c : ℕ} {l : FreeList} {p : Counts} (packed : Packed c l p) where
   packed_shortened : 0 < p.entries → p.entries - 1 ≢ c * (p.pages - 1) → Packed c l (entry_taken p)
   packed_shortened h e = let f = fewer h in omega arith
 
+  pub packed_taken : Packed c l (taken c l p)
+  packed_taken = taken_cases c l p (λ q _. Packed c l q) (λ h. omega arith) packed_emptied packed_shortened
+
   pub packed_stepped : Packed c l (stepped c l p)
   packed_stepped = step_cases c l p (λ q _. Packed c l q) packed_swapped (λ h. omega arith) packed_emptied packed_shortened
 
@@ -87,6 +89,13 @@ module _ {c : ℕ} {l : FreeList} {p : Counts} (packed : Packed c l p) where
 
   falls_swapped : 0 < p.pages → p.entries ≡ c * p.pages → work c (top_swapped l p) < work c p
   falls_swapped h w = let f = times_less c p.pages h in omega arith
+
+  pub falls_taken : Short c p → work c (taken c l p) < work c p
+  falls_taken s =
+      taken_cases c l p (λ q _. work c q < work c p)
+      (λ h. omega arith)
+      (λ h e. let r = room_emptied h in omega arith)
+      (λ h e. omega arith)
 
   pub falls_stepped : Short c p → work c (stepped c l p) < work c p
   falls_stepped s =
@@ -107,25 +116,24 @@ module _ {c : ℕ} {l : FreeList} {p : Counts} (packed : Packed c l p) where
 
   -- ---- the sums have 64 bits
 
-  pub room_fits : Small c p → (p.pages + p.fresh < 2 ^ 64) × (p.entries ≤ c * (p.pages + p.fresh)) × (c * (p.pages + p.fresh) < 2 ^ 64)
-  room_fits small = omega (arith, times_least c (p.pages + p.fresh) (omega arith))
-
   module _ (small : Small c p) (s : Short c p) where
     pub fresh-small : p.fresh + 2 < 2 ^ 64
     fresh-small = omega (arith, times_least c (p.pages + p.fresh) (omega arith))
 
-    pub small_stepped : Small c (stepped c l p)
-    small_stepped =
-        step_cases c l p (λ q _. Small c q)
-        (λ h w. let f = times_less c p.pages h in omega arith)
+    pub small-swapped : 0 < p.pages → p.entries ≡ c * p.pages → Small c (top_swapped l p)
+    small-swapped h w = let f = times_less c p.pages h in omega arith
+
+    pub small-taken : Small c (taken c l p)
+    small-taken =
+        taken_cases c l p (λ q _. Small c q)
         (λ h. omega arith)
         (λ h e. let r = room_emptied h in omega arith)
         (λ h e. omega arith)
 
 -- ---- how a turn's numbers join those of the turns after it
 
-fresh_stepped : (c : ℕ) (l : FreeList) (p : Counts) → (stepped c l p).fresh ≡ p.fresh + length (step_names c l p)
-fresh_stepped c l p = step_cases c l p (λ q xs. q.fresh ≡ p.fresh + length xs) (λ h w. sym (add-zero p.fresh)) (λ h. refl) (λ h e. refl) (λ h e. refl)
+fresh_taken : (c : ℕ) (l : FreeList) (p : Counts) → (taken c l p).fresh ≡ p.fresh + length (named c l p)
+fresh_taken c l p = taken_cases c l p (λ q xs. q.fresh ≡ p.fresh + length xs) (λ h. refl) (λ h e. refl) (λ h e. refl)
 
 -- where the room is enough nothing is left to do
 pub planned_enough : (c : ℕ) (l : FreeList) (k : ℕ) (p : Counts) → p.pushed ≤ room_of c p → planned c l k p ≡ p
@@ -178,39 +186,72 @@ unfolding Planned
 done c l p before h k e =
     record { counted = sym (planned_enough c l k p h); named = ap (λ (xs : List ℕ). sets before p.fresh (map narrow xs)) (sym (new_enough c l k p h)) }
 
--- a turn, and what is done after it
-then_turned : {c : ℕ} {l : FreeList} {p : Counts} → Packed c l p → Short c p → (before mid : List ℕ) (q r : Counts) (after : List ℕ)
-    → Turned c l p before q mid → Planned c l q mid r after → Planned c l p before r after
-unfolding Planned
-then_turned packed s before mid q r after t rest zero e = absurd (omega arith)
-then_turned {c} {l} {p} packed s before mid q r after t rest (suc k) e =
-    let d = falls_stepped packed s in
-    let o = (rw t.counted at rest) k (omega arith) in
-    rw (planned_more c l k p s, new_more c l k p s) (
-    record {
-      counted = o.counted;
-      named = o.named ∙ rw t.named (narrowed_append before p.fresh (step_names c l p) (new_pages c l k (stepped c l p)) (fresh_stepped c l p));
-    }
-    )
+module _ {c : ℕ} {l : FreeList} {p : Counts} (packed : Packed c l p) (s : Short c p) where
+  -- a swap, and what is done after it
+  pub then_swapped : (before : List ℕ) (r : Counts) (after : List ℕ) → whole_of c p ≡ true
+      → Planned c l (top_swapped l p) before r after → Planned c l p before r after
+  unfolding Planned stepped step_names
+  then_swapped before r after w rest zero e = absurd (omega arith)
+  then_swapped before r after w rest (suc k) e =
+      let f = whole_facts c p w in
+      let d = falls_swapped packed f.0 f.1 in
+      rw (planned_more c l k p s, new_more c l k p s, w) (rest k (omega arith))
 
--- ---- the loop: the turns taken so far, from the counts q₀ and their buffer to the counts q and their own
+  -- a page taken, and what is done after it
+  then_taken : (before mid : List ℕ) (q r : Counts) (after : List ℕ) → whole_of c p ≡ false → Took c l p before q mid
+      → Planned c l q mid r after → Planned c l p before r after
+  unfolding Planned stepped step_names
+  then_taken before mid q r after w t rest zero e = absurd (omega arith)
+  then_taken before mid q r after w t rest (suc k) e =
+      let d = falls_taken packed s in
+      let o = (rw t.counted at rest) k (omega arith) in
+      rw (planned_more c l k p s, new_more c l k p s, w) (
+      record {
+        counted = o.counted;
+        named = o.named ∙ rw t.named (narrowed_append before p.fresh (named c l p) (new_pages c l k (taken c l p)) (fresh_taken c l p));
+      }
+      )
+
+  -- after a swap less work is left, no whole page is at the top, and the room is as short as before
+  pub swapped_ready : Small c p → whole_of c p ≡ true → (work c (top_swapped l p) < work c p) × (Due c l (top_swapped l p) × (whole_of c (top_swapped l p) ≡ false))
+  swapped_ready small w =
+      let f = whole_facts c p w in
+      let n = times_less c p.pages f.0 in (
+        falls_swapped packed f.0 f.1,
+        (
+          record { packed = packed_swapped packed f.0 f.1; small = small-swapped packed small s f.0 f.1; short = omega arith },
+          rw (le-leb 1 p.pages f.0, ne_eqb (p.entries - 1) (c * p.pages) (omega arith)),
+        ),
+      )
+
+-- ---- a part of a run that takes pages only, from the counts q₀ and their buffer to the counts q and their own
 
 pub record Along (c : ℕ) (l : FreeList) (q₀ : Counts) (out₀ : List ℕ) (q : Counts) (out : List ℕ) : Type 0 where
   pub packed : Packed c l q
   pub small : Small c q
+  pub less : work c q ≤ work c q₀
+  pub same : length out ≡ length out₀
   pub planned : (r : Counts) (after : List ℕ) → Planned c l q out r after → Planned c l q₀ out₀ r after
 
-pub along_start : {c : ℕ} {l : FreeList} {q : Counts} {out : List ℕ} → Packed c l q × Small c q → Along c l q out q out
-along_start ready = record { packed = ready.0; small = ready.1; planned = λ r after h. h }
+pub along_start : {c : ℕ} {l : FreeList} {q : Counts} {out : List ℕ} → Packed c l q → Small c q → Along c l q out q out
+along_start packed small = record { packed = packed; small = small; less = omega arith; same = refl; planned = λ r after h. h }
 
-pub along_more : {c : ℕ} {l : FreeList} {q₀ q r : Counts} {out₀ out mid : List ℕ} → Along c l q₀ out₀ q out → Short c q
-    → Turned c l q out r mid → (work c r < work c q) × Along c l q₀ out₀ r mid
-along_more {q = q} {r = r} {out = out} {mid = mid} a s t =
-    let e = t.counted in (
-      rw e (falls_stepped a.packed s),
+pub along_more : {c : ℕ} {l : FreeList} {q₀ q r : Counts} {out₀ out mid : List ℕ} → Along c l q₀ out₀ q out → Short c q → whole_of c q ≡ false
+    → Took c l q out r mid → length mid ≡ length out → (work c r < work c q) × Along c l q₀ out₀ r mid
+along_more {c} {l} {q₀} {q} {r} {out₀} {out} {mid} a s w t n =
+    let e = t.counted in
+    let falls : work c r < work c q = rw e (falls_taken a.packed s) in (
+      falls,
       record {
-        packed = rw e (packed_stepped a.packed);
-        small = rw e (small_stepped a.packed a.small s);
-        planned = λ x after h. a.planned x after (then_turned a.packed s out mid r x after t h);
+        packed = rw e (packed_taken a.packed);
+        small = rw e (small-taken a.packed a.small s);
+        less = omega (arith, a.less);
+        same = n ∙ a.same;
+        planned = λ x after h. a.planned x after (then_taken a.packed s out mid r x after w t h);
       },
     )
+
+-- the first page that is taken begins such a part
+pub along_first : {c : ℕ} {l : FreeList} {p r : Counts} {out mid : List ℕ} → Due c l p → whole_of c p ≡ false → Took c l p out r mid → length mid ≡ length out
+    → (work c r < work c p) × Along c l p out r mid
+along_first d w t n = along_more (along_start d.packed d.small) d.short w t n

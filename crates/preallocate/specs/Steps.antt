@@ -128,10 +128,6 @@ pub record Started (c : ℕ) (l : FreeList) (first : Plan) (before : List ℕ) (
 abbrev pub Took : ℕ → FreeList → Counts → List ℕ → Counts → List ℕ → Type 0
 Took c l p before r after = Told (taken c l p) p.fresh (named c l p) before r after
 
--- a turn is taken
-abbrev pub Turned : ℕ → FreeList → Counts → List ℕ → Counts → List ℕ → Type 0
-Turned c l p before r after = Told (stepped c l p) p.fresh (step_names c l p) before r after
-
 -- all turns are taken, at any bound on the turns that is enough
 unfoldable pub Planned : ℕ → FreeList → Counts → List ℕ → Counts → List ℕ → Type 0
 Planned c l p before r after = (k : ℕ) → work c p ≤ k → Told (planned c l k p) p.fresh (new_pages c l k p) before r after

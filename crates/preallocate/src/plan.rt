@@ -6,26 +6,9 @@ ghost use Rattle.preallocate.specs.Plan.{pages_after, first_plan, plan_of};
 ghost use Rattle.preallocate.specs.Counts.{Poppable, Told, Makes};
 ghost use Rattle.preallocate.specs.Steps.{first_popped, first_names, FirstPoppable, Started};
 
-pub use crate::list::LentList;
+use crate::list::{LentList, mends};
 pub use crate::turns::Plan;
 use crate::turns::put;
-
-// Whether the list of so many pages and entries is fragmented.
-#[tactic(auto, unfolding(free_list::specs::Shape::is_fragmented))]
-pub fn is_fragmented(c: usize, pages: usize, entries: usize) -> bool
-    requires { c * (pages - 1) < 2 ^ 64 }
-    ensures { result ≡ is_fragmented c pages entries }
-{
-    2 <= pages && entries == c * (pages - 1)
-}
-
-// Whether the list is fragmented and none of it was popped: then the head's one entry becomes the number of the page under it.
-pub fn mends(c: usize, pages: usize, entries: usize, popped: usize) -> bool
-    requires { c * (pages - 1) < 2 ^ 64 }
-    ensures { result ≡ eqb popped 0 && is_fragmented c pages entries }
-{
-    popped == 0 && is_fragmented(c, pages, entries)
-}
 
 impl<'a> LentList<'a> {
     // How many of the pages are left after `popped` pops.

@@ -1,4 +1,4 @@
-// The turns that a finish takes while its room is short of the push list: it swaps the head, or takes a page.
+// The turns that a finish takes while its room is short of the push list: swapping the head and taking a page hand over to each other.
 //
 // In nomt's words, beside ours: what a save pops is first dropped from the list (`discard`; ours: `popped`), and `commit` then makes the
 // new list: `preallocate` (ours: `plan`) finds out by `pop` (`take_one`, `swap_head`) how many new list pages it takes, and
@@ -12,10 +12,10 @@
 // which is then changed too, and whose number joins the push list: so pushes make pops and pops make pushes, and the turns go on until
 // the room is enough. Where one place is missing, the pop that gets a new page frees a place too, so that one page more is there than is
 // needed: that list is *fragmented*, its head has one entry and the page under it one less than it could. The next save mends it.
-ghost use Rattle.std.specs.Prelude.{◌≡◌, true, [], ◌∷◌, ◌+◌, ◌*◌, ◌^◌, ◌≤◌, ◌<◌, ◌-◌, length, set, get_or};
+ghost use Rattle.std.specs.Prelude.{◌≡◌, true, false, [], ◌∷◌, ◌+◌, ◌*◌, ◌^◌, ◌≤◌, ◌<◌, ◌-◌, length, set, get_or};
 ghost use Rattle.page.specs.PageSize.{capacity};
 ghost use Rattle.preallocate.specs.Counts.{narrow, Told};
-ghost use Rattle.preallocate.specs.Steps.{room_of, whole_of, top_swapped, bump_taken, Packed, Small, Due, Took, Turned, Planned};
+ghost use Rattle.preallocate.specs.Steps.{room_of, whole_of, top_swapped, bump_taken, Packed, Small, Due, Took, Planned};
 
 use crate::list::LentList;
 
@@ -83,21 +83,6 @@ impl<'a> LentList<'a> {
         1 <= p.pages && p.entries == self.capacity * p.pages
     }
 
-    // Swaps the head: the top page's number joins the push list, and its last entry becomes its number.
-    fn swap_head(&self, p: Plan) -> Plan
-        requires { (1 ≤ p.entries) × (p.entries ≤ length self.now.list.entries) × (p.pushed + 1 < 2 ^ 64) }
-        ensures { result ≡ top_swapped self.now.list p }
-    {
-        let last = p.entries - 1;
-        let entries = self.entries;
-        Plan {
-            entries: last,
-            pushed: p.pushed + 1,
-            top: entries[last],
-            ..p
-        }
-    }
-
     // The number of the page under the top one of `kept` pages; where there is none, that page's own.
     pub(crate) fn under_top(&self, kept: usize) -> u32
         requires { (1 ≤ kept) × (kept ≤ length self.now.list.pages) }
@@ -132,8 +117,8 @@ impl<'a> LentList<'a> {
         }
     }
 
-    // Takes a page: the last entry, or else the bump.
-    fn take_page(&self, out: &mut [u32], p: Plan) -> Plan
+    // Takes one page: the last entry, or else the bump.
+    fn take_one(&self, out: &mut [u32], p: Plan) -> Plan
         requires { Due (capacity self.now.page_size) self.now.list p }
         ensures { Took (capacity self.now.page_size) self.now.list p out.old result out.new }
     {
@@ -144,27 +129,59 @@ impl<'a> LentList<'a> {
         }
     }
 
-    // One turn: where a whole page has come to the top the head is swapped, else a page is taken.
-    fn turn(&self, out: &mut [u32], p: Plan) -> Plan
-        requires { Due (capacity self.now.page_size) self.now.list p }
-        ensures { Turned (capacity self.now.page_size) self.now.list p out.old result out.new }
+    // The top page's number joins the push list, and its last entry becomes its number.
+    fn top_swapped(&self, p: Plan) -> Plan
+        requires { (1 ≤ p.entries) × (p.entries ≤ length self.now.list.entries) × (p.pushed + 1 < 2 ^ 64) }
+        ensures { result ≡ top_swapped self.now.list p }
     {
-        if self.is_whole(p) {
-            self.swap_head(p)
-        } else {
-            self.take_page(out, p)
+        let entries = self.entries;
+        let last = p.entries - 1;
+        Plan {
+            entries: last,
+            pushed: p.pushed + 1,
+            top: entries[last],
+            ..p
         }
     }
 
-    // Takes turns from where the plan stands until the room is enough.
-    pub(crate) fn make_room(&self, out: &mut [u32], first: Plan) -> Plan
-        requires { Packed (capacity self.now.page_size) self.now.list first × Small (capacity self.now.page_size) first }
-        ensures { Planned (capacity self.now.page_size) self.now.list first out.old result out.new }
+    // Swaps the head, and then a page is taken.
+    #[cycle(swap_head_take_page)]
+    fn swap_head(&self, out: &mut [u32], p: Plan) -> Plan
+        requires { Due (capacity self.now.page_size) self.now.list p × (whole_of (capacity self.now.page_size) p ≡ true) }
+        ensures { Planned (capacity self.now.page_size) self.now.list p out.old result out.new }
     {
-        let mut p = first;
-        while self.room(p) < p.pushed {
-            p = self.turn(out, p);
+        let swapped = self.top_swapped(p);
+        self.take_page(out, swapped)
+    }
+
+    // Takes pages until the room is enough, or until a whole page comes to the top: then the head is swapped.
+    #[cycle(swap_head_take_page)]
+    fn take_page(&self, out: &mut [u32], p: Plan) -> Plan
+        requires { Due (capacity self.now.page_size) self.now.list p × (whole_of (capacity self.now.page_size) p ≡ false) }
+        ensures { Planned (capacity self.now.page_size) self.now.list p out.old result out.new }
+    {
+        let mut q = self.take_one(out, p);
+        while self.room(q) < q.pushed {
+            if self.is_whole(q) {
+                return self.swap_head(out, q);
+            }
+            q = self.take_one(out, q);
         }
-        p
+        q
+    }
+
+    // Goes on from where the plan stands until the room is enough.
+    pub(crate) fn make_room(&self, out: &mut [u32], p: Plan) -> Plan
+        requires { Packed (capacity self.now.page_size) self.now.list p × Small (capacity self.now.page_size) p }
+        ensures { Planned (capacity self.now.page_size) self.now.list p out.old result out.new }
+    {
+        if p.pushed <= self.room(p) {
+            return p;
+        }
+        if self.is_whole(p) {
+            self.swap_head(out, p)
+        } else {
+            self.take_page(out, p)
+        }
     }
 }

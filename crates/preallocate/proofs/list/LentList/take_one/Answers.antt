@@ -1,6 +1,6 @@
--- `take_page`: with no entry left, `taken` and `named` are those of the bump.
+-- `take_one`: with no entry left, `taken` and `named` are those of the bump.
 use Rattle.preallocate.specs.Steps.{taken, named}
-use Rattle.preallocate.proofs.list.LentList.take_page.Goals as goal
+use Rattle.preallocate.proofs.list.LentList.take_one.Goals as goal
 use native.Mathlib.Omega.{arith}
 use borrow.Author.Tests.{lt-leb}
 
