@@ -1,3 +1,2 @@
--- Laws about the open save, for the proofs here and above; the machine values of its parts (`Values`).
+-- Laws about the open save, for the proofs here and above.
 pub mod SaveLaws
-pub mod Values

@@ -5,7 +5,7 @@ use native.Mathlib.Nat.{mul_comm, mul-le-mul_left, lt-div-mul-add, div-mul-le_se
 use native.Mathlib.Omega.{arith}
 use mathlib.Core.Path.{◌≡◌, refl, sym, ◌∙◌}
 use mathlib.Core.Bool.{Bool, true, false, ◌&&◌, ◌||◌, cond}
-use mathlib.Core.List.{[]}
+use mathlib.Core.List.{List, []}
 use lib.Dec.{leb, ltb, eqb}
 use borrow.Author.Tests.{le-leb, lt-leb, leb-true, ne_eqb, lt-ltb, le-ltb}
 use lib.ListN.{length, get_or}
@@ -13,7 +13,7 @@ use Rattle.refusal.specs.Outcome.{answer, refused}
 use Rattle.refusal.specs.Effect.{effect}
 use Rattle.laws.proofs.Tests.{and-true, and-true_right, and-false_right}
 use Rattle.page.specs.PageSize.{capacity}
-use Rattle.page.specs.Growth.{max_bump, grown}
+use Rattle.page.specs.Growth.{max_bump, grown, grow}
 use Rattle.free_list.specs.Shape.{is_shape}
 use Rattle.allocator.specs.OpenSave.{Save, state_fits, bumped, next_number, next_recorded, hand_out, counters, count_up}
 
@@ -75,6 +75,20 @@ stands s v e =
     let u = and-true (is_shape (capacity s) v.P v.L) _ t.1 in
     let f = and-true (leb v.P (length v.page_table)) (leb v.L (length v.entry_table)) u.1 in
     record { some = leb-true _ _ b.0; most = leb-true _ _ b.1; shape = u.0; pages_fit = leb-true _ _ f.0; entries_fit = leb-true _ _ f.1 }
+
+-- the state's tests, with the shape's at the capacity that was told
+pub tested : (s P L : ℕ) {c : ℕ} {shape : Bool} → c ≡ capacity s → shape ≡ is_shape c P L → is_shape (capacity s) P L ≡ shape
+tested s P L e t = rw (← e) (sym t)
+
+-- the length that a store is grown to, from what `grow` answers
+pub grown_is : (page n : ℕ) → page ≤ max_bump → answer n ≡ grow page → n ≡ grown page
+unfolding grow
+grown_is page n h e = cc (rw (le-leb page max_bump h) at e)
+
+-- up to the largest bump it answers
+pub grown_always : (page : ℕ) {n : ℕ} {vs : List ℕ} → page ≤ max_bump → refused n vs ≡ grow page → page ≡ grown page
+unfolding grow
+grown_always page h e = cc (rw (le-leb page max_bump h) at e)
 
 -- ---- handing out
 

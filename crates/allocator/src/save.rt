@@ -1,15 +1,14 @@
 // An open save, beside the two lent tables of its list: what it started from, and what is counted up.
 ghost use Rattle.std.specs.Prelude.{◌≡◌, ◌≤◌};
-ghost use Rattle.page.specs.PageSize.{IsPageSize};
 ghost use Rattle.page.specs.Growth.{max_bump, grown};
 ghost use Rattle.free_list.specs.Shape.{is_shape};
 ghost use Rattle.allocator.specs.OpenSave.{state_fits};
-ghost use Rattle.allocator.specs.Answers.{save_of};
-ghost use Rattle.allocator.specs.declared.save.OpenSave.{OpenSave};
 
 use free_list::list_page::max_pns_per_page;
-use page::growth::{Grown, MAX_BUMP, grow};
+use page::growth::{MAX_BUMP, grow};
 use page::number::{Allocations, PageNumber};
+use page::size::PageSize;
+use std::marker::Model;
 
 // What a save starts from, which stays as it is.
 #[derive(Clone, Copy)]
@@ -37,7 +36,25 @@ pub struct Save {
     pub open: OpenSave,
 }
 
+// A save beside the tables of its list, which are lent.
+#[derive(Drop)]
+pub struct LentSave<'a> {
+    pub save: Save,
+    pub pages: &'a [u32],
+    pub entries: &'a [u32],
+}
+
+impl<'a> Model for LentSave<'a> {
+    ghost use Rattle.allocator.specs.OpenSave.{Save as OpenedSave};
+    ghost use Rattle.allocator.specs.Answers.{save_of};
+
+    ghost Value = { OpenedSave };
+
+    ghost view = { λ s. save_of s.save.start s.save.«open» s.pages.now s.entries.now };
+}
+
 // Whether a list can have so many pages and entries, with c entries to a page.
+#[tactic(auto, using(crate::proofs::SaveLaws::shape_none, crate::proofs::SaveLaws::shape_few, crate::proofs::SaveLaws::shape_enough))]
 pub(crate) fn shape_fits(c: usize, pages: usize, entries: usize) -> bool
     requires { 2 ≤ c }
     ensures { result ≡ is_shape c pages entries }
@@ -51,24 +68,27 @@ pub(crate) fn shape_fits(c: usize, pages: usize, entries: usize) -> bool
     pages - 1 <= entries / c
 }
 
-// Whether a save that starts so can go on, whatever was counted.
-pub fn state_fits(page_size: usize, start: Start, pages: &[u32], entries: &[u32]) -> bool
-    requires { IsPageSize page_size }
-    ensures { (v : OpenSave) → result ≡ state_fits page_size (save_of start v pages.now entries.now) }
-{
-    let shape = shape_fits(max_pns_per_page(page_size), start.pages, start.entries);
-    1 <= start.bump
-        && (start.bump <= MAX_BUMP
-            && (shape && (start.pages <= pages.len() && start.entries <= entries.len())))
+impl<'a> LentSave<'a> {
+    // Whether it can go on, whatever was counted.
+    #[tactic(auto, using(crate::proofs::SaveLaws::tested), unfolding(crate::specs::OpenSave::state_fits))]
+    pub fn state_fits(&self, page_size: PageSize) -> bool
+        ensures { result ≡ state_fits page_size self.now }
+    {
+        let start = self.save.start;
+        (1 <= start.bump && start.bump <= MAX_BUMP)
+            && (shape_fits(max_pns_per_page(page_size), start.pages, start.entries)
+                && (start.pages <= self.pages.len() && start.entries <= self.entries.len()))
+    }
 }
 
 // The length that a store is grown to for this page or bump.
+#[tactic(auto, using(crate::proofs::SaveLaws::grown_is, crate::proofs::SaveLaws::grown_always))]
 pub fn grown_for(page: u32) -> u32
     requires { page ≤ max_bump }
     ensures { result ≡ grown page }
 {
     match grow(PageNumber(page)) {
-        Grown::To(grown) => grown.0,
-        Grown::Refused(_) => page,
+        Ok(grown) => grown.0,
+        Err(_) => page,
     }
 }
