@@ -1,22 +1,25 @@
 -- A save that changes the list: the numbers of its plan stay in bounds and are those of its work, and the parts that are written make
 -- the new list. From the laws of the plan. Assumes nothing.
 use Prim.Native.Nat.{ℕ, zero, suc, ◌+◌, ◌*◌, ◌-◌, ◌^◌, ◌<◌, ◌≤◌}
-use native.Mathlib.Nat.{mul-suc, mul-zero, zero-sub}
+use native.Mathlib.Nat.{mul-zero}
 use native.Mathlib.Omega.{arith}
 use mathlib.Core.Path.{◌≡◌, refl, ap, sym, ◌∙◌}
 use mathlib.Core.Logic.{inl, inr}
 use mathlib.Core.Bool.{Bool, true, false, ◌&&◌}
 use mathlib.Core.List.{List, [], map, append-nil, Memᴰ}
 use lib.Dec.{eqb}
-use lib.ListN.{length, get_or, take}
-use lib.Seq.{sets, length-sets, get_or-take}
+use lib.ListN.{length, get_or, take, drop, length-drop}
+use lib.Seq.{sets, length-take-le, get_or-take}
+use Rattle.std.proofs.lemmas.List.{drop-take}
 use Rattle.page.specs.PageSize.{IsPageSize, capacity}
 use Rattle.page.specs.Growth.{max_bump}
 use Rattle.page.specs.Pages.{Write}
 use Rattle.laws.proofs.SetsLaws.{take-sets, sets-kept}
-use Rattle.free_list.specs.Shape.{is_shape, is_fragmented}
+use Rattle.free_list.specs.Shape.{FreeList, is_shape, is_fragmented}
+use Rattle.free_list.proofs.ShapeLaws.{bounds_shape}
 use Rattle.preallocate.specs.Plan.{Plan, plan_of}
-use Rattle.preallocate.specs.Counts.{counts, table_list, Planable, Makes}
+use Rattle.preallocate.specs.Lists.{whole_list}
+use Rattle.preallocate.specs.Counts.{counts, Poppable, Makes}
 use Rattle.preallocate.specs.declared.turns.Plan.{Plan as Counts}
 use Rattle.preallocate.proofs.StepsLaws.{all_kept_lem}
 use Rattle.preallocate.proofs.SomeLaws.{plan_some}
@@ -25,10 +28,11 @@ use Rattle.allocator.specs.OpenSave.{Save, list_of, bumped}
 use Rattle.allocator.proofs.SaveLaws.{Stands, stands}
 use Rattle.free_list.specs.Reading.{ListTables}
 use Rattle.finisher.specs.Finish.{Finished, FinishLent, new_list, encoded_pages, carried_out, finished, bytes_of_pages, stored, room_in}
-use Rattle.finisher.specs.Steps.{popped, unchanged, plan_for, new_numbers, new_tables, push_list, bytes_from, Pushable, Listed, EncodableList, Goes, Changed, Doable}
+use Rattle.finisher.specs.Steps.{popped, unchanged, plan_for, new_numbers, new_tables, push_list, bytes_from, Pushable, Goes, Changed, Doable}
 use Rattle.finisher.specs.declared.judge.Work.{Work}
 use Rattle.finisher.proofs.EncodeLaws.{length-encoded_pages}
 use Rattle.finisher.proofs.FinishLaws.{pages_listed, entries_listed, list_shape, finished_same, finished_changed, bump_raised, Succeeds, Room, succeeds}
+use Rattle.finisher.proofs.TablesLaws.{push_list_part}
 use Rattle.finisher.proofs.PushLaws.{Pushes, plan-pushes, plan-longer, plan-few}
 use Rattle.finisher.proofs.FreshLaws.{Taken, plan_fresh}
 use Rattle.finisher.proofs.NewListLaws.{numbers_of_pages, length_new_numbers, length_new_pages, new_written, table_pages, table_entries}
@@ -151,38 +155,14 @@ module _ {s : ℕ} {v : Save} {freed : List ℕ} (h : Changed s v freed) where
       rw is (table_entries v.page_table v.entry_table v.P v.L plan standing.pages_fit standing.entries_fit bounds.kept bounds.left)
 
   -- the new list has the shape
-  pub new_listed : (a b : List ℕ) → length made.list.pages ≤ length a → length made.list.entries ≤ length b
-      → Listed s a b (length made.list.pages) (length made.list.entries)
-  new_listed a b e f =
-      record {
-        size = h.size;
-        some = omega (arith, entries_count, bounds.some);
-        most = rw (pages_count, entries_count) bounds.enough;
-        least = rw (pages_count, entries_count) (less (plan.kept + length plan.fresh) bounds.tight);
-        pages_fit = e;
-        entries_fit = f;
-      }
-    where
-      less : (n : ℕ) → capacity s * n ≤ plan.left + length plan.pushed + capacity s
-          → capacity s * (n - 1) ≤ plan.left + length plan.pushed
-      less zero e = rw (zero-sub 1, mul-zero) (omega arith)
-      less (suc n) e =
-          let one : suc n - 1 ≡ n = omega arith in
-          rw one (omega (arith, mul-suc (capacity s) n))
+  pub new_shape : is_shape (capacity s) (length made.list.pages) (length made.list.entries) ≡ true
+  new_shape = rw (pages_count, entries_count) (bounds_shape (capacity s) _ _ (omega (arith, bounds.some)) bounds.tight bounds.enough)
 
 -- ---- the work's numbers are those of the plan
 
 -- a plan can be made of the pops and the bump of a save
-pub save_planable : {s : ℕ} {v : Save} → IsPageSize s → Stands s v → bumped v ≤ max_bump → Planable s v.page_table v.entry_table v.P v.L (popped v) (bumped v)
-save_planable size st limit =
-    record {
-      size = size;
-      shape = st.shape;
-      pages_fit = st.pages_fit;
-      entries_fit = st.entries_fit;
-      pops = omega arith;
-      bumps = omega arith;
-    }
+pub save_poppable : {s : ℕ} {v : Save} → Stands s v → bumped v ≤ max_bump → Poppable (list_of v) (popped v) (bumped v)
+save_poppable st limit = record { pops = omega (arith, entries_listed st); bumps = limit }
 
 module _ {s : ℕ} {v : Save} {freed : List ℕ} {work : Work} (h : Doable s v freed work) where
   pub plan_is : work.plan ≡ counts (plan_for s v freed)
@@ -195,19 +175,19 @@ module _ {s : ℕ} {v : Save} {freed : List ℕ} {work : Work} (h : Doable s v f
   bump_is = ap (λ (w : Work). w.bump) h.is
 
   -- the plan can be made again
-  pub planable : Planable s v.page_table v.entry_table v.P v.L work.popped work.bump
-  planable = rw (pops_are, bump_is) (save_planable h.save.size (standing h.save) (omega (arith, h.limit, bump_raised freed h.save.size (standing h.save))))
+  pub poppable : Poppable (list_of v) work.popped work.bump
+  poppable = rw (pops_are, bump_is) (save_poppable (standing h.save) (omega (arith, h.limit, bump_raised freed h.save.size (standing h.save))))
 
   -- its new pages are entries, or numbers below the bump, which was judged: so they have 32 bits
-  fresh_fits : ((i : ℕ) → get_or v.entry_table i 0 < 2 ^ 32) → (n : ℕ) → Memᴰ n (plan_for s v freed).fresh → n < 2 ^ 32
+  fresh_fits : ((i : ℕ) → get_or (list_of v).entries i 0 < 2 ^ 32) → (n : ℕ) → Memᴰ n (plan_for s v freed).fresh → n < 2 ^ 32
   fresh_fits fits n m =
       go ((plan_fresh (capacity s) (list_of v) (popped v) freed (bumped v) (omega (arith, h.save.size.two_entries)) (shape h.save)).news n m)
     where
       go : Taken (list_of v) (popped v) (bumped v) (plan_for s v freed) n → n < 2 ^ 32
-      go (inl (i, _, below, e)) = rw (e, get_or-take v.L v.entry_table i 0 (omega (arith, all h.save))) (fits i)
+      go (inl (i, _, below, e)) = rw e (fits i)
       go (inr (_, below)) = omega (arith, below, bump_planned h.save, h.limit)
 
-  pub named_again : ((i : ℕ) → get_or v.entry_table i 0 < 2 ^ 32) → {before : List ℕ} {r : Counts} {after : List ℕ}
+  pub named_again : ((i : ℕ) → get_or (list_of v).entries i 0 < 2 ^ 32) → {before : List ℕ} {r : Counts} {after : List ℕ}
       → Makes (plan_of (capacity s) (list_of v) work.popped freed work.bump) before r after → after ≡ sets before 0 (plan_for s v freed).fresh
   named_again fits {before} m = (rw (pops_are, bump_is) at m).named ∙ ap (sets before 0) (all_kept_lem (plan_for s v freed).fresh (fresh_fits fits))
 
@@ -229,24 +209,40 @@ module _ {s : ℕ} {v : Save} {freed : List ℕ} {work : Work} (h : Doable s v f
   pub written_are : work.written ≡ length (finished s v freed).written
   written_are = ap (λ (w : Work). w.written) h.is
 
+  -- the new list has room in the tables
+  pub tables_room : (work.pages ≤ length v.page_table) × (work.entries ≤ length v.entry_table)
+  tables_room = (omega (arith, pages_are, h.pages_fit), omega (arith, entries_are, h.entries_fit))
+
   -- ---- what is written
+
+  -- the pages released are those from page `low` on
+  abbrev low : ℕ
+  low = v.P - (work.plan.pushed - length freed)
+
+  abbrev released : List ℕ
+  released = take (v.P - low) (drop low v.page_table)
+
+  released_is : released ≡ drop low (take v.P v.page_table)
+  released_is = let e : low + (v.P - low) ≡ v.P = omega arith in rw (← drop-take low (v.P - low) v.page_table, e)
+
+  length-released : length released ≡ v.P - low
+  length-released = length-take-le (v.P - low) (drop low v.page_table) (omega (arith, length-drop low v.page_table, (standing h.save).pages_fit))
 
   -- the push list has room behind the entries left
   pub pushable : {mended : Bool} → mended ≡ eqb work.popped 0 && is_fragmented (capacity s) v.P v.L
-      → Pushable freed v.page_table v.entry_table mended v.P (v.P - (work.plan.pushed - length freed)) work.plan.entries
+      → Pushable freed released mended v.entry_table work.plan.entries
   pushable m =
       let b = bounds h.save in
       record {
-        order = omega arith;
-        pages_fit = (standing h.save).pages_fit;
-        entries_fit = omega (arith, b.longer, b.few, h.entries_fit, entries_count h.save, left_is, pushed_is);
-        two = λ e. rw pushed_is (pushes_two h.save (rw (← pops_are) (sym m ∙ e)));
+        entries_fit = omega (arith, length-released, b.longer, b.few, h.entries_fit, entries_count h.save, left_is, pushed_is);
+        two = λ e. let two = rw (← pushed_is) at (pushes_two h.save (rw (← pops_are) (sym m ∙ e))) in omega (arith, length-released, two);
       }
 
   pub entries_carried : {mended : Bool} {r : List ℕ} → mended ≡ eqb work.popped 0 && is_fragmented (capacity s) v.P v.L
-      → r ≡ sets v.entry_table work.plan.entries (push_list freed mended (take v.P v.page_table) (v.P - (work.plan.pushed - length freed)))
-      → r ≡ (new_tables s v freed).entries
-  entries_carried m e = e ∙ rw (m, pops_are, pushed_is, left_is, ← (pushes h.save).list) (sym (entries_written h.save))
+      → r ≡ sets v.entry_table work.plan.entries (push_list freed mended released 0) → r ≡ (new_tables s v freed).entries
+  entries_carried {mended} m e =
+      e ∙ ap (sets v.entry_table work.plan.entries) (push_list_part freed mended (take v.P v.page_table) low released_is)
+      ∙ rw (m, pops_are, pushed_is, left_is, ← (pushes h.save).list) (sym (entries_written h.save))
 
   -- the numbers of the pages written have room behind the pages kept
   pub pages_room : work.plan.pages - 1 + work.written ≤ length v.page_table
@@ -266,28 +262,27 @@ module _ {s : ℕ} {v : Save} {freed : List ℕ} {work : Work} (h : Doable s v f
   numbers_carried numbers e = e ∙ ap (sets numbers 0) (sym (numbers_are h.save))
 
   -- the pages, from the tables with the new list
-  module _ {t : ListTables} (is-new : t ≡ new_tables s v freed) {first : ℕ} (f : first ≡ work.plan.pages - 1) where
-    list_is : table_list t.pages t.entries work.pages work.entries ≡ (finished s v freed).list
+  module _ {t : ListTables} (is-new : t ≡ new_tables s v freed) where
+    pub list_is : whole_list (take work.pages t.pages) (take work.entries t.entries) ≡ (finished s v freed).list
     list_is =
         let m = (finished s v freed).list in
         let p : take work.pages t.pages ≡ m.pages = rw (is-new, pages_are) (take-sets v.page_table m.pages h.pages_fit) in
         let q : take work.entries t.entries ≡ m.entries = rw (is-new, entries_are) (take-sets v.entry_table m.entries h.entries_fit) in
         λ i. record { pages = p i; entries = q i }
 
-    pub encodable : {bytes_lent : ℕ} → s * work.written ≤ bytes_lent → EncodableList s t.pages t.entries work.pages work.entries first bytes_lent
-    encodable fit =
-        record {
-          list =
-              rw (pages_are, entries_are)
-              (new_listed h.save t.pages t.entries (rw (is-new, length-sets v.page_table) h.pages_fit) (rw (is-new, length-sets v.entry_table) h.entries_fit));
-          order = omega (arith, f, kept_is, pages_are, pages_count h.save);
-          bytes_fit = rw (f, kept_is, pages_are, ← written_count h.save, ← written_are) fit;
-        }
+    pub shape_is : is_shape (capacity s) (length (take work.pages t.pages)) (length (take work.entries t.entries)) ≡ true
+    shape_is = ap (λ (m : FreeList). is_shape (capacity s) (length m.pages) (length m.entries)) list_is ∙ new_shape h.save
 
-    pub buffer-carried : (buffer : List ℕ) {r : List ℕ} → r ≡ sets buffer 0 (bytes_from s (table_list t.pages t.entries work.pages work.entries) first (work.pages - first))
-        → r ≡ sets buffer 0 (bytes_of_pages (finished s v freed).written)
+  module _ {first : ℕ} (f : first ≡ work.plan.pages - 1) {m : FreeList} (new : m ≡ (finished s v freed).list) where
+    -- they have room in the buffer
+    pub encodable : {bytes_lent : ℕ} → s * work.written ≤ bytes_lent
+        → (first ≤ length m.pages) × (s * (length m.pages - first) ≤ bytes_lent)
+    encodable fit = rw new (omega (arith, f, kept_is, pages_count h.save), rw (f, kept_is, ← written_count h.save, ← written_are) fit)
+
+    pub buffer-carried : (buffer : List ℕ) {r : List ℕ}
+        → r ≡ sets buffer 0 (bytes_from s m first (length m.pages - first)) → r ≡ sets buffer 0 (bytes_of_pages (finished s v freed).written)
     buffer-carried buffer e =
-        e ∙ ap (λ (ws : List Write). sets buffer 0 (bytes_of_pages ws)) (rw (list_is, f, kept_is, pages_are) (sym (written_is h.save)))
+        e ∙ ap (λ (ws : List Write). sets buffer 0 (bytes_of_pages ws)) (rw (new, f, kept_is) (sym (written_is h.save)))
 
 -- ---- a finish that answers
 

@@ -17,7 +17,7 @@ use Rattle.laws.proofs.SetsLaws.{take-sets}
 use Rattle.page.specs.PageSize.{most_entries, IsPageSize, capacity}
 use Rattle.page.specs.Growth.{max_bump}
 use Rattle.preallocate.specs.Plan.{plan_of}
-use Rattle.preallocate.specs.Counts.{counts, Planable}
+use Rattle.preallocate.specs.Counts.{counts, Poppable}
 use Rattle.preallocate.specs.declared.turns.Plan.{Plan as Counts}
 use Rattle.preallocate.proofs.FirstLaws.{capacity_fits}
 use Rattle.allocator.specs.OpenSave.{Save, list_of, bumped, state_fits}
@@ -27,7 +27,7 @@ use Rattle.finisher.specs.Finish.{Finished, finish_answer, finished, finish, Roo
 use Rattle.finisher.specs.Steps.{unchanged, plan_for, all_kept, work_of, same_work, judged, answer_of, Begun, Goes, Changed}
 use Rattle.finisher.specs.declared.judge.Work.{Work}
 use Rattle.finisher.proofs.FinishLaws.{pages_listed, entries_listed, finished_same, Succeeds, Room, succeeds}
-use Rattle.finisher.proofs.CarryLaws.{bounds, bump_planned, pages_count, entries_count, written_count, save_planable}
+use Rattle.finisher.proofs.CarryLaws.{bounds, bump_planned, pages_count, entries_count, written_count, save_poppable}
 
 -- the work's bump is the finish's
 pub work_bump : (s : ℕ) (v : Save) (freed : List ℕ) → IsPageSize s → state_fits s v ≡ true → (work_of s v freed).plan.bump ≡ (finished s v freed).bump
@@ -44,8 +44,8 @@ module _ {s : ℕ} {v : Save} {pops bump : ℕ} (b : Begun s v pops bump) where
   standing = stands s v b.state
 
   -- a plan can be made
-  pub begun_planable : Planable s v.page_table v.entry_table v.P v.L pops bump
-  begun_planable = rw (b.pops_are, b.bump_is) (save_planable b.size standing (omega (arith, b.limit, b.bump_is)))
+  pub begun_poppable : Poppable (list_of v) pops bump
+  begun_poppable = rw (b.pops_are, b.bump_is) (save_poppable standing (omega (arith, b.limit, b.bump_is)))
 
   module _ (freed : List ℕ) where
     same_test : {q : Bool} → eqb pops 0 && eqb (length freed) 0 ≡ q → unchanged v freed ≡ q

@@ -14,7 +14,7 @@ use Rattle.page.specs.Pages.{Write}
 use Rattle.laws.proofs.SetsLaws.{sets-kept}
 use Rattle.free_list.specs.Shape.{FreeList}
 use Rattle.preallocate.specs.Plan.{Plan}
-use Rattle.preallocate.specs.Counts.{table_list}
+use Rattle.preallocate.specs.Lists.{whole_list}
 use Rattle.finisher.specs.Finish.{new_list, encoded_page, encoded_pages}
 use Rattle.finisher.specs.Steps.{new_numbers}
 
@@ -51,12 +51,12 @@ module _ (l : FreeList) (t : Plan) (kept : t.kept ≤ length l.pages) (left : t.
 
 -- what the tables hold, where the list is their first part
 module _ (pages entries : List ℕ) (P L : ℕ) (t : Plan) (pages_fit : P ≤ length pages) (entries_fit : L ≤ length entries) (kept : t.kept ≤ P) (left : t.left ≤ L) where
-  pub table_pages : sets pages 0 (new_list (table_list pages entries P L) t).pages ≡ sets pages (t.kept - 1) (new_numbers t)
+  pub table_pages : sets pages 0 (new_list (whole_list (take P pages) (take L entries)) t).pages ≡ sets pages (t.kept - 1) (new_numbers t)
   table_pages =
-      ap (sets pages 0) (new_pages_lem (table_list pages entries P L) t (rw (length-take-le P pages pages_fit) kept) (rw (length-take-le L entries entries_fit) left))
+      ap (sets pages 0) (new_pages_lem (whole_list (take P pages) (take L entries)) t (rw (length-take-le P pages pages_fit) kept) (rw (length-take-le L entries entries_fit) left))
       ∙ rw (take-take (t.kept - 1) P pages (omega arith)) (sets-kept pages (t.kept - 1) (new_numbers t) (omega arith))
 
-  pub table_entries : sets entries 0 (new_list (table_list pages entries P L) t).entries ≡ sets entries t.left t.pushed
+  pub table_entries : sets entries 0 (new_list (whole_list (take P pages) (take L entries)) t).entries ≡ sets entries t.left t.pushed
   unfolding new_list
   table_entries = rw (take-take t.left L entries left) (sets-kept entries t.left t.pushed (omega arith))
 

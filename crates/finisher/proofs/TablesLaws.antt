@@ -1,92 +1,88 @@
--- The steps of the loops over the tables.
--- One place more each, by the laws of `sets`. Assumes nothing.
+-- What the code puts into the tables, and the first bad number. By the laws of `sets`. Assumes nothing.
 use Prim.Native.Nat.{ℕ, suc, ◌+◌, ◌-◌, ◌<◌, ◌≤◌}
-use native.Mathlib.Nat.{add-zero, not-suc-le-zero}
+use native.Mathlib.Nat.{not-suc-le-zero}
 use native.Mathlib.Numerals.{add-one}
 use native.Mathlib.Omega.{arith}
-use mathlib.Core.Path.{◌≡◌, ap, sym, ◌∙◌}
-use mathlib.Core.Bool.{Bool, true, false, ◌&&◌}
-use mathlib.Core.List.{List, [], ◌∷◌, reverse, reverse-cons}
-use lib.Dec.{leb}
-use lib.ListN.{length, get_or, take, drop, set, length-take, length-drop, length-reverse, drop_of_length-le}
-use lib.Seq.{sets, take-suc, take-length, drop-cons, length-take-le, length-sets, get_or-take}
-use borrow.Author.Tests.{le-leb, lt-ltb, le-ltb}
+use mathlib.Core.Path.{◌≡◌, refl, ap, sym, ◌∙◌}
+use mathlib.Core.Bool.{Bool, true, false, ◌&&◌, ◌||◌, cond}
+use mathlib.Core.List.{List, [], ◌∷◌, reverse}
+use lib.Dec.{leb, ltb, eqb}
+use lib.ListN.{length, get_or, take, drop, set, length-drop, length-reverse}
+use lib.Seq.{sets, take-suc, length-take-le, length-sets}
+use Rattle.std.specs.Prelude.{Option, Some, None}
+use Rattle.std.specs.List.{position_or_len, swap}
+use borrow.Author.Tests.{ltb-true, ltb-false}
+use Rattle.laws.proofs.Tests.{cond_cases}
+use Rattle.std.proofs.lemmas.List.Edits.{swap_is}
+use Rattle.std.proofs.lemmas.Bool.Decides.{nat_tests}
+use Rattle.std.proofs.lemmas.List.{get_or-reverse}
+use Rattle.std.proofs.lemmas.List.Recursion.{is_position_or_len}
 use Rattle.laws.proofs.SetsLaws.{sets-append, sets-snoc, sets_swapped}
 use Rattle.finisher.specs.Finish.{first_bad}
-use Rattle.finisher.specs.Steps.{swap_if, push_list}
+use Rattle.finisher.specs.Steps.{swap_if, bad_place, push_list}
 
 -- ---- the first bad number
 
--- the number at place i, where those before it are good
-module _ (limit : ℕ) (ns : List ℕ) (i : ℕ) (before : first_bad limit ns ≡ i + first_bad limit (drop i ns)) where
-  pub bad_none : length ns ≤ i → i ≡ first_bad limit ns
-  unfolding first_bad
-  bad_none h = sym (before ∙ rw (drop_of_length-le ns h, add-zero))
+bad_or_good : (limit n k : ℕ) → cond (leb 1 n && ltb n limit) (suc k) 0 ≡ cond (eqb n 0 || leb limit n) 0 (1 + k)
+bad_or_good limit n k = grind (arith, nat_tests)
 
-  module _ (inside : i < length ns) where
-    pub bad-zero : get_or ns i 0 ≡ 0 → i ≡ first_bad limit ns
-    unfolding first_bad
-    bad-zero e = sym (before ∙ rw (drop-cons ns i 0 inside, e, add-zero i))
+-- it is the first of those that are 0 or not below the limit
+pub bad_found : (limit : ℕ) (ns : List ℕ) → first_bad limit ns ≡ position_or_len (λ n. eqb n 0 || leb limit n) ns
+unfolding first_bad
+bad_found limit ns = is_position_or_len (first_bad limit) (λ n. eqb n 0 || leb limit n) refl (λ n ns. bad_or_good limit n (first_bad limit ns)) ns
 
-    pub bad-past : limit ≤ get_or ns i 0 → i ≡ first_bad limit ns
-    unfolding first_bad
-    bad-past h = sym (before ∙ rw (drop-cons ns i 0 inside, le-ltb _ _ h) (none (leb 1 (get_or ns i 0))))
-      where
-        none : (b : Bool) → i + mathlib.Core.Bool.cond (b && false) (suc (first_bad limit (drop (suc i) ns))) 0 ≡ i
-        none true = add-zero i
-        none false = add-zero i
+bad_within : (limit : ℕ) (ns : List ℕ) → first_bad limit ns ≤ length ns
+unfolding first_bad
+bad_within limit [] = omega arith
+bad_within limit (n ∷ ns) =
+    let rest = bad_within limit ns in
+    cond_cases (λ (k : ℕ). k ≤ suc (length ns)) (leb 1 n && ltb n limit) _ _ (λ e. omega arith) (λ e. omega arith)
 
-    pub bad-later : (get_or ns i 0 ≡ 0 → ⊥) → get_or ns i 0 < limit → first_bad limit ns ≡ i + 1 + first_bad limit (drop (i + 1) ns)
-    unfolding first_bad
-    bad-later ne h =
-        before ∙ rw (drop-cons ns i 0 inside, le-leb 1 (get_or ns i 0) (omega arith), lt-ltb _ _ h, add-one i) (omega arith)
+-- the place that is found, or none
+module _ (limit : ℕ) (ns : List ℕ) where
+  abbrev found : ℕ
+  found = position_or_len (λ n. eqb n 0 || leb limit n) ns
 
--- ---- copies
+  pub bad_some : {o : Option ℕ} {i : ℕ} → o ≡ bad_place limit ns → o ≡ Some i → (first_bad limit ns ≡ i) × (i < length ns)
+  bad_some {o} {i} e f = go (ltb found (length ns)) refl (sym e ∙ f)
+    where
+      go : (b : Bool) → ltb found (length ns) ≡ b → cond b (Some found) None ≡ Some i → (first_bad limit ns ≡ i) × (i < length ns)
+      go true t g = let same : found ≡ i = cc in (bad_found limit ns ∙ same, omega (arith, ltb-true found (length ns) t, same))
+      go false t g = let never : ⊥ = cc in absurd never
 
--- one number more
-pub copy_more : (l m ns : List ℕ) (at i : ℕ) → i < length ns → m ≡ sets l at (take i ns) → set m (at + i) (get_or ns i 0) ≡ sets l at (take (i + 1) ns)
-copy_more l m ns at i inside e =
-    rw (add-one i, take-suc ns i 0 inside, sets-snoc l at (take i ns) (get_or ns i 0) i (length-take-le i ns (omega arith)), ← e)
+  pub bad_none : {o : Option ℕ} → o ≡ bad_place limit ns → o ≡ None → first_bad limit ns ≡ length ns
+  bad_none {o} e f = go (ltb found (length ns)) refl (sym e ∙ f)
+    where
+      go : (b : Bool) → ltb found (length ns) ≡ b → cond b (Some found) None ≡ None → first_bad limit ns ≡ length ns
+      go true t g = let never : ⊥ = cc in absurd never
+      go false t g = omega (arith, bad_found limit ns, ltb-false found (length ns) t, bad_within limit ns)
 
--- one page more, from the top down
-pub push_more : (l m pages : List ℕ) (count at page i : ℕ) → 0 < page → page ≤ count → count ≤ length pages → i + page ≡ at + count
-    → m ≡ sets l at (reverse (drop page (take count pages)))
-    → set m i (get_or pages (page - 1) 0) ≡ sets l at (reverse (drop (page - 1) (take count pages)))
-push_more l m pages count at page i some most fits place e =
-    let kept = take count pages in
-    let last = page - 1 in
-    let next : suc last ≡ page = omega arith in
-    let long : length kept ≡ count = length-take-le count pages fits in
-    let inside : last < length kept = omega arith in
-    let more : drop last kept ≡ get_or pages last 0 ∷ drop page kept =
-    drop-cons kept last 0 inside ∙ rw (next, get_or-take count pages last 0 (omega arith)) in
-    let done : length (reverse (drop page kept)) ≡ count - page = rw (length-reverse, length-drop page kept, long) in
-    let here : at + (count - page) ≡ i = omega arith in
-    rw (more, reverse-cons (get_or pages last 0) (drop page kept), sets-snoc l at (reverse (drop page kept)) (get_or pages last 0) (count - page) done, here, ← e)
+-- ---- the pages, from the last to the first
 
--- before the first
-pub push_none : (l pages : List ℕ) (count at : ℕ) → l ≡ sets l at (reverse (drop count (take count pages)))
-push_none l pages count at =
-    let none : length (take count pages) ≤ count = omega (arith, length-take count pages) in
-    rw (drop_of_length-le (take count pages) none)
+pub push_more : (l m pages : List ℕ) (at i : ℕ) → i < length pages → m ≡ sets l at (take i (reverse pages))
+    → set m (at + i) (get_or pages (length pages - 1 - i) 0) ≡ sets l at (take (i + 1) (reverse pages))
+push_more l m pages at i inside e =
+    rw (← get_or-reverse pages i 0 inside, add-one i, take-suc (reverse pages) i 0 (rw length-reverse inside),
+      sets-snoc l at (take i (reverse pages)) (get_or (reverse pages) i 0) i (length-take-le i (reverse pages) (rw length-reverse (omega arith))), ← e)
 
 -- ---- the push list
 
-module _ (l a b freed pages : List ℕ) (at low : ℕ) (first : a ≡ sets l at (take (length freed) freed)) (second : b ≡ sets a (at + length freed) (reverse (drop low pages))) where
-  both : b ≡ sets (sets l at freed) (at + length freed) (reverse (drop low pages))
-  both = second ∙ ap (λ (m : List ℕ). sets m (at + length freed) (reverse (drop low pages))) (first ∙ ap (sets l at) (take-length freed))
+module _ (l a b freed released : List ℕ) (at : ℕ) (first : a ≡ sets l at freed) (second : b ≡ sets a (at + length freed) (reverse released)) where
+  both : b ≡ sets (sets l at freed) (at + length freed) (reverse released)
+  both = second ∙ ap (λ (m : List ℕ). sets m (at + length freed) (reverse released)) first
 
-  pub pushes_ordinary : b ≡ sets l at (push_list freed false pages low)
+  pub pushes_ordinary : b ≡ sets l at (push_list freed false released 0)
   unfolding push_list
-  pushes_ordinary = both ∙ sym (sets-append l at freed (reverse (drop low pages)))
+  pushes_ordinary = both ∙ sym (sets-append l at freed (reverse released))
 
-  pub pushes_mended : (r : List ℕ) → low + 2 ≤ length pages → at + length freed + (length pages - low) ≤ length l
-      → r ≡ set (set b (at + length freed) (get_or b (at + length freed + 1) 0)) (at + length freed + 1) (get_or b (at + length freed) 0)
-      → r ≡ sets l at (push_list freed true pages low)
+  pub pushes_mended : {r : List ℕ} → 2 ≤ length released → at + length freed + length released ≤ length l
+      → r ≡ swap b (at + length freed) (at + length freed + 1) → r ≡ sets l at (push_list freed true released 0)
   unfolding push_list
-  pushes_mended r two fits e =
-      e ∙ rw (add-one (at + length freed), both, sets-append l at freed (swap_if true (reverse (drop low pages))))
-      (turned (reverse (drop low pages)) (rw (length-reverse, length-drop low pages) (omega arith)))
+  pushes_mended two fits e =
+      let long : length b ≡ length l = rw both (simp length-sets) in
+      e ∙ sym (swap_is b (at + length freed) (at + length freed + 1) 0 (omega arith) (omega arith))
+      ∙ rw (add-one (at + length freed), both, sets-append l at freed (swap_if true (reverse released)))
+      (turned (reverse released) (rw length-reverse two))
     where
       turned : (ns : List ℕ) → 2 ≤ length ns
           → set (set (sets (sets l at freed) (at + length freed) ns) (at + length freed) (get_or (sets (sets l at freed) (at + length freed) ns) (suc (at + length freed)) 0))
@@ -95,3 +91,9 @@ module _ (l a b freed pages : List ℕ) (at low : ℕ) (first : a ≡ sets l at 
       turned [] h = absurd (not-suc-le-zero h)
       turned (x ∷ []) h = absurd (omega arith)
       turned (x ∷ y ∷ ns) h = sets_swapped (sets l at freed) (at + length freed) x y ns (omega (arith, length-sets l at freed))
+
+-- of a part of the pages
+pub push_list_part : (freed : List ℕ) (mended : Bool) {part : List ℕ} (pages : List ℕ) (low : ℕ) → part ≡ drop low pages
+    → push_list freed mended part 0 ≡ push_list freed mended pages low
+unfolding push_list
+push_list_part freed mended pages low e = rw e

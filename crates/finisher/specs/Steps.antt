@@ -1,8 +1,9 @@
 -- The finish's work in parts. Only private functions cite these.
-use Rattle.std.specs.Prelude.{ℕ, ◌+◌, ◌*◌, ◌-◌, min, ◌≤◌, ◌≡◌, Bool, true, false, ◌&&◌, cond, List, [], ◌∷◌, ◌++◌, reverse, leb, ltb, eqb, length, get_or, take, drop}
+use Rattle.std.specs.Prelude.{ℕ, ◌+◌, ◌*◌, ◌-◌, min, ◌≤◌, ◌≡◌, Bool, true, false, ◌&&◌, cond, List, [], ◌∷◌, ◌++◌, reverse, leb, ltb, eqb, length, get_or, take, drop, Option, position, ◌||◌, Result}
 use Rattle.std.proofs.lemmas.List.Edits.{sets}
 use Rattle.refusal.specs.Outcome.{Outcome, answer, with_answer}
-use Rattle.refusal.specs.Refusals.{refusal}
+use Rattle.refusal.specs.Refusals.{outcome}
+use Rattle.refusal.specs.declared.Refusal.{Refusal}
 use Rattle.page.specs.PageSize.{IsPageSize, capacity}
 use Rattle.page.specs.Growth.{max_bump, grown}
 use Rattle.free_list.specs.Reading.{ListTables}
@@ -16,8 +17,7 @@ use Rattle.allocator.specs.declared.save.Start.{Start}
 use Rattle.finisher.specs.Answers.{save_with}
 use Rattle.finisher.specs.Finish.{Finished, FinishAnswer, RoomLent, room_in, FinishLent, encoded_pages, finished, finish, bytes_of_pages, stored}
 use Rattle.finisher.specs.declared.judge.Work.{Work}
-use Rattle.finisher.specs.declared.judge.Judged.{Judged}
-use Rattle.finisher.specs.declared.judge.Judged.TheVariants.{Todo, Refused}
+use Rattle.finisher.specs.declared.judge.Room.{Room}
 
 -- ---- what a finish comes to, in numbers
 
@@ -69,14 +69,17 @@ pub record Begun (s : ℕ) (v : Save) (pops bump : ℕ) : Type 0 where
   pub bump_is : bump ≡ bumped v
   pub limit : bump ≤ max_bump
 
--- room in numbers
-abbrev pub room_of : ℕ → ℕ → RoomLent
-room_of bytes numbers = record { bytes = bytes; numbers = numbers }
+-- the code's room, as the definitions have it
+abbrev pub room_of : Room → RoomLent
+room_of room = record { bytes = room.bytes; numbers = room.numbers }
 
 -- what the code has judged, as an outcome; it is the finish's, of which the work is told
-abbrev pub judged_outcome : Judged → Outcome Work
-judged_outcome (Todo w) = answer w
-judged_outcome (Refused r) = refusal r
+abbrev pub judged_outcome : Result Work Refusal → Outcome Work
+judged_outcome = outcome (λ work. work)
+
+-- the place of the first freed number that is 0 or not below the limit, if there is one
+abbrev pub bad_place : ℕ → List ℕ → Option ℕ
+bad_place limit = position (λ n. eqb n 0 || leb limit n)
 
 abbrev pub judged : ℕ → Save → List ℕ → RoomLent → Outcome Work
 judged s v freed room = with_answer (λ (f : Finished). answer (work_of s v freed)) (finish s v freed room)
@@ -128,32 +131,15 @@ unfoldable pub push_list : List ℕ → Bool → List ℕ → ℕ → List ℕ
 push_list freed mended pages low = freed ++ swap_if mended (reverse (drop low pages))
 
 -- it has room in the table of entries, from place `at` on
-pub record Pushable (freed pages entries : List ℕ) (mended : Bool) (count low at : ℕ) : Type 0 where
-  pub order : low ≤ count
-  pub pages_fit : count ≤ length pages
-  pub entries_fit : at + length freed + (count - low) ≤ length entries
-  pub two : mended ≡ true → low + 2 ≤ count
+pub record Pushable (freed released : List ℕ) (mended : Bool) (entries : List ℕ) (at : ℕ) : Type 0 where
+  pub entries_fit : at + length freed + length released ≤ length entries
+  pub two : mended ≡ true → 2 ≤ length released
 
 -- ---- the new list
-
--- the list of P pages and L entries that two tables hold has the shape, and some entries
-pub record Listed (s : ℕ) (pages entries : List ℕ) (P L : ℕ) : Type 0 where
-  pub size : IsPageSize s
-  pub some : 1 ≤ L
-  pub most : L ≤ capacity s * P
-  pub least : capacity s * (P - 1) ≤ L
-  pub pages_fit : P ≤ length pages
-  pub entries_fit : L ≤ length entries
 
 -- the bytes of n of its pages from page `first` up
 abbrev pub bytes_from : ℕ → FreeList → ℕ → ℕ → List ℕ
 bytes_from s l first n = bytes_of_pages (encoded_pages s l first n)
-
--- its pages from page `first` up have room in so many bytes
-pub record EncodableList (s : ℕ) (pages entries : List ℕ) (P L first bytes_lent : ℕ) : Type 0 where
-  pub list : Listed s pages entries P L
-  pub order : first ≤ P
-  pub bytes_fit : s * (P - first) ≤ bytes_lent
 
 -- the numbers of the pages that are written: the top page's, if one is kept, and the new pages'
 unfoldable pub new_numbers : Plan → List ℕ

@@ -8,15 +8,17 @@ ghost use Rattle.finisher.specs.Answers.{save_with};
 ghost use Rattle.finisher.specs.Steps.{Goes, Doable, Numberable, Filled, plan_for, numbers_for, new_tables, carried};
 
 use crate::encode::encode_pages;
-use crate::judge::{Work, one_less};
-use crate::tables::{copy_numbers, write_pushes};
-use allocator::save::Save;
+use crate::judge::{Work, list_of};
+use crate::tables::write_pushes;
+use allocator::save::{LentSave, Save};
 use free_list::list_page::max_pns_per_page;
-use preallocate::plan::{mends, plan};
+use page::copy::copy;
+use page::size::PageSize;
+use preallocate::list::{LentList, mends};
 
 // Writes the work. Where no page is written nothing changes.
 pub(crate) fn carry_out(
-    page_size: usize,
+    page_size: PageSize,
     save: Save,
     work: Work,
     freed: &[u32],
@@ -31,79 +33,53 @@ pub(crate) fn carry_out(
     if work.written == 0 {
         return;
     }
-    fill_numbers(page_size, save, work, freed, pages, entries, numbers);
+    let lent = LentSave {
+        save,
+        pages: &*pages,
+        entries: &*entries,
+    };
+    fill_numbers(page_size, &lent, work, freed, numbers);
     write_tables(page_size, save, work, freed, numbers, pages, entries);
-    let first = one_less(work.plan.pages);
-    encode_pages(
-        page_size,
-        pages,
-        entries,
-        work.pages,
-        work.entries,
-        first,
-        buffer,
-    );
+    let list = LentList::new(page_size, &pages[..work.pages], &entries[..work.entries]);
+    encode_pages(&list, work.plan.pages.saturating_sub(1), buffer);
 }
 
 // The numbers of the pages to be written: the top page's, if one is kept, and the new pages'.
 fn fill_numbers(
-    page_size: usize,
-    save: Save,
+    page_size: PageSize,
+    lent: &LentSave,
     work: Work,
     freed: &[u32],
-    pages: &[u32],
-    entries: &[u32],
     numbers: &mut [u32],
 )
-    requires { Numberable page_size (save_with save pages.now entries.now) freed.now work numbers.old }
-    ensures { numbers.new ≡ sets numbers.old 0 (numbers_for page_size (save_with save pages.now entries.now) freed.now) }
+    requires { Numberable page_size lent.now freed.now work numbers.old }
+    ensures { numbers.new ≡ sets numbers.old 0 (numbers_for page_size lent.now freed.now) }
 {
     if work.plan.pages == 0 {
-        new_pages(page_size, save, work, freed, pages, entries, numbers);
+        new_pages(page_size, lent, work, freed, numbers);
         return;
     }
     numbers[0] = work.plan.top;
-    new_pages(
-        page_size,
-        save,
-        work,
-        freed,
-        pages,
-        entries,
-        &mut numbers[1..],
-    );
+    new_pages(page_size, lent, work, freed, &mut numbers[1..]);
 }
 
 // The numbers of the new pages: the plan is made again, this time with room for them.
 fn new_pages(
-    page_size: usize,
-    save: Save,
+    page_size: PageSize,
+    lent: &LentSave,
     work: Work,
     freed: &[u32],
-    pages: &[u32],
-    entries: &[u32],
     numbers: &mut [u32],
 )
-    requires { Doable page_size (save_with save pages.now entries.now) freed.now work }
-    ensures { numbers.new ≡ sets numbers.old 0 (plan_for page_size (save_with save pages.now entries.now) freed.now).fresh }
+    requires { Doable page_size lent.now freed.now work }
+    ensures { numbers.new ≡ sets numbers.old 0 (plan_for page_size lent.now freed.now).fresh }
 {
-    let start = save.start;
-    plan(
-        page_size,
-        pages,
-        entries,
-        start.pages,
-        start.entries,
-        work.popped,
-        freed,
-        work.bump,
-        numbers,
-    );
+    list_of(page_size, lent).plan(work.popped, freed, work.bump, numbers);
 }
 
 // The new list in the tables: the push list behind the entries kept, and then the numbers of the pages to be written behind the pages kept.
 fn write_tables(
-    page_size: usize,
+    page_size: PageSize,
     save: Save,
     work: Work,
     freed: &[u32],
@@ -114,19 +90,12 @@ fn write_tables(
     requires { Filled page_size (save_with save pages.old entries.old) freed.now work numbers.now }
     ensures { tables after pages entries ≡ new_tables page_size (save_with save pages.old entries.old) freed.now }
 {
-    let c = max_pns_per_page(page_size);
     let start = save.start;
+    let c = max_pns_per_page(page_size);
     let mended = mends(c, start.pages, start.entries, work.popped);
     let low = start.pages - (work.plan.pushed - freed.len());
-    write_pushes(
-        freed,
-        mended,
-        pages,
-        start.pages,
-        low,
-        entries,
-        work.plan.entries,
-    );
-    let first = one_less(work.plan.pages);
-    copy_numbers(numbers, work.written, pages, first);
+    let released = &pages[low..start.pages];
+    write_pushes(freed, released, mended, entries, work.plan.entries);
+    let first = work.plan.pages.saturating_sub(1);
+    copy(&numbers[..work.written], pages, first);
 }

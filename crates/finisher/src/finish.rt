@@ -1,15 +1,14 @@
 // Finishing a save: the new list in the tables, its pages in the buffer, their numbers in the number list.
-ghost use Rattle.std.specs.Prelude.{◌≡◌, cond, ◌-◌, ◌≤◌, ltb, length, get_or, take};
+ghost use Rattle.std.specs.Prelude.{◌≡◌, cond, ◌-◌, ◌≤◌, ltb, length, get_or};
 ghost use Rattle.refusal.specs.Effect.{before, after, effect};
-ghost use Rattle.page.specs.PageSize.{page_bytes};
 ghost use Rattle.page.specs.Growth.{max_bump, grown};
 ghost use Rattle.finisher.specs.Finish.{finish_into, finish_lent, finish_room};
 ghost use Rattle.finisher.specs.Answers.{save_with, meta_answer, finish_outcome};
 ghost use Rattle.finisher.specs.Steps.{answer_of};
 
 use crate::carry::carry_out;
-use crate::judge::{Judged, Work, judge};
-use allocator::save::{Save, grown_for};
+use crate::judge::{Room, Work, judge};
+use allocator::save::{LentSave, Save, grown_for};
 use page::number::PageNumber;
 use page::size::PageSize;
 use refusal::Refusal;
@@ -26,12 +25,6 @@ pub struct StoreMeta {
     pub written: usize,
 }
 
-#[derive(Clone, Copy)]
-pub enum Finishing {
-    Finished(StoreMeta),
-    Refused(Refusal),
-}
-
 // Finishes the save. `freed` are the numbers freed; the tables then hold the new list, the first bytes of `buffer` the pages to be
 // written, and the first places of `numbers` their page numbers. A refusal leaves all four as they were.
 pub fn finish(
@@ -42,27 +35,23 @@ pub fn finish(
     freed: &[u32],
     buffer: &mut [u8],
     numbers: &mut [u32],
-) -> Finishing
-    ensures { effect (finish_outcome result) (finish_lent after pages entries buffer numbers) ≡ finish_into (page_bytes page_size) (save_with save pages.old entries.old) freed.now (finish_room before buffer numbers) }
+) -> Result<StoreMeta, Refusal>
+    ensures { effect (finish_outcome result) (finish_lent after pages entries buffer numbers) ≡ finish_into page_size (save_with save pages.old entries.old) freed.now (finish_room before buffer numbers) }
 {
-    let page_bytes = page_size.bytes();
-    match judge(
-        page_bytes,
+    let room = Room {
+        bytes: buffer.len(),
+        numbers: numbers.len(),
+    };
+    let lent = LentSave {
         save,
-        pages,
-        entries,
-        freed,
-        buffer.len(),
-        numbers.len(),
-    ) {
-        Judged::Refused(refusal) => Finishing::Refused(refusal),
-        Judged::Todo(work) => {
-            carry_out(
-                page_bytes, save, work, freed, pages, entries, buffer, numbers,
-            );
-            Finishing::Finished(store_after(save.open.length, work, pages))
-        }
-    }
+        pages: &*pages,
+        entries: &*entries,
+    };
+    let work = judge(page_size, &lent, freed, room)?;
+    carry_out(
+        page_size, save, work, freed, pages, entries, buffer, numbers,
+    );
+    Ok(store_after(save.open.length, work, pages))
 }
 
 // The store after this work, of which this length was recorded.
@@ -72,7 +61,7 @@ fn store_after(recorded: u32, work: Work, pages: &[u32]) -> StoreMeta
 {
     let bump = work.plan.bump as u32;
     StoreMeta {
-        head: head_of(pages, work.pages),
+        head: head_of(&pages[..work.pages]),
         bump,
         length: recorded_after(recorded, bump),
         pages: work.pages,
@@ -82,14 +71,13 @@ fn store_after(recorded: u32, work: Work, pages: &[u32]) -> StoreMeta
 }
 
 // The number of the head page, 0 if the list has no page.
-fn head_of(pages: &[u32], count: usize) -> PageNumber
-    requires { count ≤ length pages.now }
-    ensures { result.0 ≡ get_or (take count pages.now) (count - 1) 0 }
+fn head_of(pages: &[u32]) -> PageNumber
+    ensures { result.0 ≡ get_or pages.now (length pages.now - 1) 0 }
 {
-    if count == 0 {
-        return PageNumber(0);
+    match pages.last() {
+        Some(head) => PageNumber(*head),
+        None => PageNumber(0),
     }
-    PageNumber(pages[count - 1])
 }
 
 // The recorded length, grown where it does not cover the bump.

@@ -1,16 +1,18 @@
 // What a finish comes to, in numbers: its work, or the refusal.
-ghost use Rattle.std.specs.Prelude.{◌≡◌, ◌&&◌, ◌*◌, ◌-◌, ◌≤◌, leb};
+ghost use Rattle.std.specs.Prelude.{◌≡◌, ◌&&◌, ◌*◌, ◌^◌, ◌≤◌, ◌<◌, ℕ, true, leb, eqb, length, get_or};
 ghost use Rattle.page.specs.PageSize.{IsPageSize};
-ghost use Rattle.finisher.specs.Answers.{save_with};
+ghost use Rattle.allocator.specs.OpenSave.{state_fits, list_of};
 ghost use Rattle.finisher.specs.Steps.{work_of, same_work, judged_outcome, judged, Begun, room_of};
 
 use crate::tables::first_bad;
-use allocator::save::{Save, Start, state_fits};
+use allocator::save::{LentSave, Start};
 use page::growth::MAX_BUMP;
-use page::least::least;
-use preallocate::plan::{Plan, plan};
+use page::size::PageSize;
+use preallocate::list::LentList;
+use preallocate::turns::Plan;
 use refusal::Refusal;
 
+// The work of a finish.
 #[derive(Clone, Copy)]
 pub(crate) struct Work {
     // How many entries were popped, and the bump after the numbers handed out.
@@ -24,90 +26,94 @@ pub(crate) struct Work {
     pub(crate) written: usize,
 }
 
+// How much is lent for the pages to write: so many bytes, and places for so many numbers.
 #[derive(Clone, Copy)]
-pub(crate) enum Judged {
-    Todo(Work),
-    Refused(Refusal),
+pub(crate) struct Room {
+    pub(crate) bytes: usize,
+    pub(crate) numbers: usize,
 }
 
-// Judges a finish for which so many bytes and places are lent, in the order of the refusals.
+// Judges a finish for which so much room is lent, in the order of the refusals.
 pub(crate) fn judge(
-    page_size: usize,
-    save: Save,
-    pages: &[u32],
-    entries: &[u32],
+    page_size: PageSize,
+    lent: &LentSave,
     freed: &[u32],
-    bytes: usize,
-    places: usize,
-) -> Judged
-    requires { IsPageSize page_size }
-    ensures { judged_outcome result ≡ judged page_size (save_with save pages.now entries.now) freed.now (room_of bytes places) }
+    room: Room,
+) -> Result<Work, Refusal>
+    ensures judged { judged_outcome result ≡ judged page_size lent.now freed.now (room_of room) }
+    ensures size { IsPageSize page_size }
 {
-    if !state_fits(page_size, save.start, pages, entries) {
-        return Judged::Refused(Refusal::State);
+    let size = page_size.bytes();
+    if !lent.state_fits(page_size) {
+        return Err(Refusal::State);
     }
-    let handed = save.open.allocations.0;
-    let popped = least(handed, save.start.entries);
+    let start = lent.save.start;
+    let handed = lent.save.open.allocations.0;
+    let popped = handed.min(start.entries);
     let past = handed - popped;
-    let room = (MAX_BUMP - save.start.bump) as usize;
-    if room < past {
-        return Judged::Refused(Refusal::Limit);
+    if past > (MAX_BUMP - start.bump) as usize {
+        return Err(Refusal::Limit);
     }
-    let bump = save.start.bump as usize + past;
-    let work = measure(page_size, save, popped, bump, pages, entries, freed);
-    if (MAX_BUMP as usize) < work.plan.bump {
-        return Judged::Refused(Refusal::Limit);
+    let bump = start.bump as usize + past;
+    let work = measure(page_size, lent, popped, bump, freed);
+    if work.plan.bump > MAX_BUMP as usize {
+        return Err(Refusal::Limit);
     }
-    let bad = first_bad(freed, bump);
-    if bad != freed.len() {
-        return Judged::Refused(Refusal::Freed(bad));
+    if let Some(bad) = first_bad(freed, bump) {
+        return Err(Refusal::Freed(bad));
     }
-    if !tables_fit(work, pages.len(), entries.len()) {
-        return Judged::Refused(Refusal::Tables);
+    if !tables_fit(work, lent.pages.len(), lent.entries.len()) {
+        return Err(Refusal::Tables);
     }
-    if !pages_fit(page_size, work.written, bytes, places) {
-        return Judged::Refused(Refusal::Buffer);
+    if !pages_fit(size, work.written, room) {
+        return Err(Refusal::Buffer);
     }
-    Judged::Todo(work)
+    Ok(work)
+}
+
+// The list of a save that stands.
+pub(crate) fn list_of<'a>(page_size: PageSize, lent: &LentSave<'a>) -> LentList<'a>
+    requires { state_fits page_size lent.now ≡ true }
+    ensures list { result ≡ record { page_size = page_size; list = list_of lent.now } }
+    ensures fits { (i : ℕ) → get_or (list_of lent.now).entries i 0 < 2 ^ 32 }
+{
+    let start = lent.save.start;
+    let pages = lent.pages;
+    let entries = lent.entries;
+    LentList::new(page_size, &pages[..start.pages], &entries[..start.entries])
 }
 
 // The work of a save with so many pops and this bump.
 fn measure(
-    page_size: usize,
-    save: Save,
+    page_size: PageSize,
+    lent: &LentSave,
     popped: usize,
     bump: usize,
-    pages: &[u32],
-    entries: &[u32],
     freed: &[u32],
 ) -> Work
-    requires { Begun page_size (save_with save pages.now entries.now) popped bump }
-    ensures { result ≡ work_of page_size (save_with save pages.now entries.now) freed.now }
+    requires { Begun page_size lent.now popped bump }
+    ensures { result ≡ work_of page_size lent.now freed.now }
 {
-    if popped == 0 && freed.len() == 0 {
-        return nothing_to_do(save.start, bump);
+    if is_unchanged(popped, freed) {
+        return nothing_to_do(lent.save.start, bump);
     }
-    let mut none = [0u32; 1];
-    let planned = plan(
-        page_size,
-        pages,
-        entries,
-        save.start.pages,
-        save.start.entries,
-        popped,
-        freed,
-        bump,
-        &mut none,
-    );
-    let count = planned.pages + planned.fresh;
+    let plan = list_of(page_size, lent).plan(popped, freed, bump, &mut []);
+    let pages = plan.pages + plan.fresh;
     Work {
         popped,
         bump,
-        plan: planned,
-        pages: count,
-        entries: planned.entries + planned.pushed,
-        written: count - one_less(planned.pages),
+        plan,
+        pages,
+        entries: plan.entries + plan.pushed,
+        written: pages - plan.pages.saturating_sub(1),
     }
+}
+
+// Whether nothing was popped and nothing freed.
+fn is_unchanged(popped: usize, freed: &[u32]) -> bool
+    ensures { result ≡ eqb popped 0 && eqb (length freed.now) 0 }
+{
+    popped == 0 && freed.is_empty()
 }
 
 // The work where nothing was popped and nothing freed: all is kept.
@@ -138,17 +144,10 @@ fn tables_fit(work: Work, pages: usize, entries: usize) -> bool
     work.pages <= pages && work.entries <= entries
 }
 
-// Whether n pages have room in so many bytes, and their numbers in so many places.
-fn pages_fit(page_size: usize, n: usize, bytes: usize, places: usize) -> bool
+// Whether n pages and their numbers have room.
+fn pages_fit(page_size: usize, n: usize, room: Room) -> bool
     requires { 1 ≤ page_size }
-    ensures { result ≡ leb (page_size * n) bytes && leb n places }
+    ensures { result ≡ leb (page_size * n) room.bytes && leb n room.numbers }
 {
-    n <= bytes / page_size && n <= places
-}
-
-// One less, and 0 of 0.
-pub(crate) fn one_less(n: usize) -> usize
-    ensures { result ≡ n - 1 }
-{
-    if n == 0 { 0 } else { n - 1 }
+    n <= room.bytes / page_size && n <= room.numbers
 }

@@ -1,5 +1,5 @@
 // A free list whose two tables are lent, and what is known of it by its shape.
-ghost use Rattle.std.specs.Prelude.{◌≡◌, true, ◌&&◌, ◌*◌, ◌-◌, ◌^◌, ◌≤◌, ◌<◌, eqb, length};
+ghost use Rattle.std.specs.Prelude.{◌≡◌, true, ◌&&◌, ◌*◌, ◌-◌, ◌^◌, ◌≤◌, ◌<◌, ℕ, eqb, length, get_or};
 ghost use Rattle.page.specs.PageSize.{IsPageSize, capacity};
 ghost use Rattle.free_list.specs.Shape.{is_shape, is_fragmented, entries_below, entries_on, previous};
 ghost use Rattle.preallocate.specs.Lists.{whole_list};
@@ -30,10 +30,12 @@ impl<'a> Model for LentList<'a> {
 }
 
 impl<'a> LentList<'a> {
-    // The list that these tables hold, which has the shape of an accepted one.
+    // The list that these tables hold, which has the shape of an accepted one. That its entries have 32 bits is told too: callers see the
+    // list, and not the slices.
     pub fn new(page_size: PageSize, pages: &'a [u32], entries: &'a [u32]) -> LentList<'a>
         requires { is_shape (capacity page_size) (length pages.now) (length entries.now) ≡ true }
-        ensures { result ≡ record { page_size = page_size; list = whole_list pages.entry.now entries.entry.now } }
+        ensures list { result ≡ record { page_size = page_size; list = whole_list pages.entry.now entries.entry.now } }
+        ensures fits { (i : ℕ) → get_or entries.entry.now i 0 < 2 ^ 32 }
     {
         LentList {
             page_size: page_size.bytes(),

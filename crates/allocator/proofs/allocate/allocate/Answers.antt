@@ -1,16 +1,23 @@
 -- `allocate`: its tests are the definition's, in order; the state bounds what is read and added.
-use Rattle.std.proofs.Common.{◌≡◌, ℕ, ◌-◌, Bool, true}
+use Rattle.std.proofs.Common.{◌+◌, ◌<◌, get_or, ◌≡◌, ℕ, ◌-◌, Bool, true}
 use Rattle.allocator.proofs.allocate.allocate.Goals as goal
 use Prim.Native.Nat.{suc}
 use mathlib.Core.Path.{sym, ◌∙◌}
 use native.Mathlib.Numerals.{add-one}
 use native.Mathlib.Omega.{arith}
-use Rattle.allocator.specs.OpenSave.{Save, state_fits}
+use Rattle.refusal.specs.Outcome.{answer}
+use Rattle.refusal.specs.Effect.{effect}
+use Rattle.allocator.specs.OpenSave.{Save, state_fits, count_up}
 use Rattle.allocator.proofs.SaveLaws.{stands, refused_state, handed-listed, refused-limit, handed-past}
 
 -- the state of the save, where the test said that it stands
 standing : (s : ℕ) {v w : Save} {fits : Bool} → v ≡ w → fits ≡ state_fits s w → fits ≡ true → state_fits s v ≡ true
 standing s e tested is = rw (← e) at (sym tested ∙ is)
+
+-- an entry is handed out: the one at this place
+listed : (s : ℕ) (v : Save) → state_fits s v ≡ true → v.handed < v.L → {place : ℕ} → place ≡ v.L - suc v.handed
+    → effect (answer (get_or v.entry_table place 0)) (record { handed = v.handed + 1; recorded = v.recorded }) ≡ count_up s v
+listed s v state h e = rw (e, add-one) (handed-listed s v state h)
 
 pub returns-then-not-state_fits : goal.returns-then-not-state_fits
 returns-then-not-state_fits c = refused_state _ _ (sym c.state_fits.ensures ∙ c.if-not-state_fits.true)
@@ -23,10 +30,8 @@ bounds-entries-last c = let h = stands _ _ (standing c.args.page_size c.lent.vie
 
 pub returns-then-handed-start : goal.returns-then-handed-start
 returns-then-handed-start c =
-    let v = c.lent.inside in
-    let e : v.save.start.entries - 1 - v.save.«open».allocations.0 ≡ v.save.start.entries - suc v.save.«open».allocations.0 = omega arith in
-    rw (← c.lent.view_is, c.counted_up.ensures, e, add-one)
-    (handed-listed _ _ (standing c.args.page_size c.lent.view_is c.state_fits.ensures c.if-not-state_fits.false) c.if-handed-start.true)
+    rw (← c.lent.view_is, c.counted_up.ensures)
+    (listed _ _ (standing c.args.page_size c.lent.view_is c.state_fits.ensures c.if-not-state_fits.false) c.if-handed-start.true (omega arith))
 
 pub overflow_sub-room : goal.overflow_sub-room
 overflow_sub-room c = (stands _ _ (standing c.args.page_size c.lent.view_is c.state_fits.ensures c.if-not-state_fits.false)).most

@@ -1,8 +1,9 @@
--- `carry_out` meets its contract: the number list, the tables and the pages are what the finish makes; where no page is written, it
--- changes nothing.
+-- `carry_out`: the number list, the tables and the pages are what the finish makes; where no page is written, nothing changes.
 use Rattle.finisher.proofs.carry.carry_out.Goals as goal
 use native.Mathlib.Omega.{arith}
-use Rattle.finisher.proofs.CarryLaws.{bytes_enough, numbers_enough, goes_doable, goes_same, numbers_filled, numbers_carried, encodable, buffer-carried}
+use mathlib.Core.Path.{sym}
+use lib.Seq.{length-take-le}
+use Rattle.finisher.proofs.CarryLaws.{tables_room, bytes_enough, numbers_enough, goes_doable, goes_same, numbers_filled, numbers_carried, list_is, shape_is, encodable, buffer-carried}
 
 pub returns-then-work-eq0 : goal.returns-then-work-eq0
 returns-then-work-eq0 c = goes_same c.requires c.if-work-eq0.true
@@ -18,11 +19,29 @@ write_tables-requires c =
       numbers_are = numbers_filled (goes_doable c.requires c.if-work-eq0.false) c.args.numbers.now enough c.fill_numbers.ensures;
     }
 
+pub slice_bounds-new-end : goal.slice_bounds-new-end
+slice_bounds-new-end c = omega (arith, (tables_room (goes_doable c.requires c.if-work-eq0.false)).0, c.write_tables.auto)
+
+pub slice_bounds-new-end-2 : goal.slice_bounds-new-end-2
+slice_bounds-new-end-2 c = sym (length-take-le _ _ (omega (arith, (tables_room (goes_doable c.requires c.if-work-eq0.false)).0, c.write_tables.auto)))
+
+pub slice_bounds-new-end-3 : goal.slice_bounds-new-end-3
+slice_bounds-new-end-3 c = omega (arith, (tables_room (goes_doable c.requires c.if-work-eq0.false)).1, c.write_tables.auto)
+
+pub slice_bounds-new-end-4 : goal.slice_bounds-new-end-4
+slice_bounds-new-end-4 c = sym (length-take-le _ _ (omega (arith, (tables_room (goes_doable c.requires c.if-work-eq0.false)).1, c.write_tables.auto)))
+
+pub new-list-requires : goal.new-list-requires
+new-list-requires c = shape_is (goes_doable c.requires c.if-work-eq0.false) c.write_tables.ensures
+
 pub encode_pages-requires : goal.encode_pages-requires
-encode_pages-requires c = encodable (goes_doable c.requires c.if-work-eq0.false) c.write_tables.ensures c.one_less-first.ensures (bytes_enough c.requires)
+encode_pages-requires c =
+    let h = goes_doable c.requires c.if-work-eq0.false in
+    rw c.new-list.ensures.list (encodable h c.saturating_sub.ensures (list_is h c.write_tables.ensures) (bytes_enough c.requires))
 
 pub returns : goal.returns
 returns c =
-    let buffer = buffer-carried (goes_doable c.requires c.if-work-eq0.false) c.write_tables.ensures c.one_less-first.ensures c.args.buffer.now c.encode_pages.ensures in
-    let numbers = numbers_carried (goes_doable c.requires c.if-work-eq0.false) c.args.numbers.now c.fill_numbers.ensures in
+    let h = goes_doable c.requires c.if-work-eq0.false in
+    let buffer = buffer-carried h c.saturating_sub.ensures (list_is h c.write_tables.ensures) c.args.buffer.now (rw c.new-list.ensures.list at c.encode_pages.ensures) in
+    let numbers = numbers_carried h c.args.numbers.now c.fill_numbers.ensures in
     λ i. record { tables = c.write_tables.ensures i; room = record { buffer = buffer i; numbers = numbers i } }

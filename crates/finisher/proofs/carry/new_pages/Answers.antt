@@ -1,10 +1,12 @@
--- `new_pages` meets its contract: the plan is made again, and all its numbers have 32 bits.
+-- `new_pages`: the plan is made again, and all its numbers have 32 bits.
 use Rattle.finisher.proofs.carry.new_pages.Goals as goal
-use native.Mathlib.Omega.{arith}
-use Rattle.finisher.proofs.CarryLaws.{planable, named_again}
+use Rattle.finisher.proofs.CarryLaws.{poppable, named_again}
+
+pub list_of-requires : goal.list_of-requires
+list_of-requires c = c.requires.save.state
 
 pub plan-requires : goal.plan-requires
-plan-requires c = planable c.requires
+plan-requires c = rw c.list_of.ensures.list (poppable c.requires)
 
 pub returns : goal.returns
-returns c = named_again c.requires (λ i. omega (arith, c.shared_slice_known-3-1.given i)) c.plan.ensures
+returns c = named_again c.requires c.list_of.ensures.fits (rw c.list_of.ensures.list at c.plan.ensures)

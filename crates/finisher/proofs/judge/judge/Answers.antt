@@ -1,9 +1,8 @@
--- `judge` meets its contract: its tests are those of `finish`, in order. Each has one law here, which says its value in the definition's
+-- `judge`: its tests are those of `finish`, in order. Each has one law here, which says its value in the definition's
 -- terms; a return rewrites with the tests that led to it.
-use Rattle.std.proofs.Common.{◌≡◌, ◌&&◌, ◌*◌, ◌+◌, ◌-◌, ◌<◌, ◌≤◌, leb, ℕ, length, List, Bool, true, false, le-leb, eq-eqb, ne_eqb}
+use Rattle.std.proofs.Common.{Option, Some, None, eqb, ◌≡◌, ◌&&◌, ◌*◌, ◌+◌, ◌-◌, ◌<◌, ◌≤◌, leb, ℕ, length, List, Bool, true, false, le-leb, eq-eqb, ne_eqb}
 use Rattle.page.specs.PageSize.{IsPageSize}
-use Rattle.finisher.specs.Answers.{save_with}
-use Rattle.finisher.specs.Steps.{popped, work_of, Begun}
+use Rattle.finisher.specs.Steps.{popped, work_of, Begun, bad_place}
 use Rattle.finisher.proofs.judge.judge.Goals as goal
 use native.Mathlib.Omega.{arith}
 use mathlib.Core.Path.{ap, sym, ◌∙◌}
@@ -12,11 +11,13 @@ use Rattle.refusal.specs.Outcome.{answer}
 use Rattle.page.specs.Growth.{max_bump}
 use Rattle.page.proofs.PageSizeLaws.{page_least}
 use Rattle.allocator.specs.OpenSave.{Save, bumped, state_fits}
+use Rattle.allocator.specs.Answers.{save_of}
 use Rattle.allocator.proofs.SaveLaws.{stands}
 use Rattle.finisher.specs.Finish.{first_bad, finished, finish}
 use Rattle.finisher.specs.declared.judge.Work.{Work}
 use Rattle.finisher.proofs.FinishLaws.{bump_raised}
 use Rattle.finisher.proofs.JudgeLaws.{work_bump}
+use Rattle.finisher.proofs.TablesLaws.{bad_some, bad_none}
 
 -- The code's tests are those of `finish`, in order: each has a law here, which says its value in the definition's terms.
 
@@ -49,10 +50,17 @@ module _ (s : ℕ) (v : Save) (size : IsPageSize s) (state : state_fits s v ≡ 
       limit_is h = le-leb (finished s v freed).bump max_bump (omega (arith, bump_is, h))
 
 -- the freed numbers
-bad_is : (v : Save) (freed : List ℕ) {k bad : ℕ} → k ≡ popped v → bad ≡ first_bad (v.bump + (v.handed - k)) freed → first_bad (bumped v) freed ≡ bad
-bad_is v freed {k} pops is =
-    let bump_is : v.bump + (v.handed - k) ≡ bumped v = omega (arith, pops) in
-    sym (is ∙ ap (λ (n : ℕ). first_bad n freed) bump_is)
+module _ (v : Save) (freed : List ℕ) {k : ℕ} (pops : k ≡ popped v) {o : Option ℕ} (found : o ≡ bad_place (v.bump + (v.handed - k)) freed) where
+  bumped_is : v.bump + (v.handed - k) ≡ bumped v
+  bumped_is = omega (arith, pops)
+
+  bad_is : {i : ℕ} → o ≡ Some i → (first_bad (bumped v) freed ≡ i) × (eqb i (length freed) ≡ false)
+  bad_is {i} e =
+      let b = bad_some (bumped v) freed (rw bumped_is at found) e in
+      (b.0, ne_eqb i (length freed) (omega (arith, b.1)))
+
+  all_good : o ≡ None → eqb (first_bad (bumped v) freed) (length freed) ≡ true
+  all_good e = eq-eqb _ _ (bad_none (bumped v) freed (rw bumped_is at found) e)
 
 module _ (s : ℕ) (v : Save) (freed : List ℕ) {w : Work} (is : w ≡ work_of s v freed) where
   -- the tables
@@ -65,69 +73,80 @@ module _ (s : ℕ) (v : Save) (freed : List ℕ) {w : Work} (is : w ≡ work_of 
       → leb (s * length (finished s v freed).written) bytes && leb (length (finished s v freed).written) places ≡ q
   pages_are bytes places tested e = ap (λ (x : Work). leb (s * x.written) bytes && leb x.written places) (sym is) ∙ sym tested ∙ e
 
-pub returns-then-not-state_fits : goal.returns-then-not-state_fits
-unfolding finish
-returns-then-not-state_fits c = rw (sym (c.state_fits.ensures c.args.save.«open») ∙ c.if-not-state_fits.true)
+-- the state of the save, where the test said that it stands, or not
+state_is : (s : ℕ) {v w : Save} {fits q : Bool} → v ≡ w → fits ≡ state_fits s w → fits ≡ q → state_fits s v ≡ q
+state_is s e tested is = rw (← e) at (sym tested ∙ is)
 
-pub overflow_sub-room : goal.overflow_sub-room
-overflow_sub-room c = (stands _ _ (sym (c.state_fits.ensures c.args.save.«open») ∙ c.if-not-state_fits.false)).most
-
-pub returns-then-room-past : goal.returns-then-room-past
+pub returns-then-not-state_fits-clause-judged : goal.returns-then-not-state_fits-clause-judged
 unfolding finish
-returns-then-room-past c =
-    let state = sym (c.state_fits.ensures c.args.save.«open») ∙ c.if-not-state_fits.false in
-    rw (state, limit-handed _ _ c.requires state c.args.freed.now c.least-popped.ensures c.if-room-past.true)
+returns-then-not-state_fits-clause-judged c = rw (sym c.state_fits.ensures ∙ c.if-not-state_fits.true)
+
+pub overflow_sub-start : goal.overflow_sub-start
+overflow_sub-start c = (stands _ _ (state_is c.args.page_size c.lent.view_is c.state_fits.ensures c.if-not-state_fits.false)).most
+
+pub returns-then-past-start-clause-judged : goal.returns-then-past-start-clause-judged
+unfolding finish
+returns-then-past-start-clause-judged c =
+    let size = rw c.bytes-size.ensures.bytes at c.bytes-size.ensures.size in
+    let state = state_is c.args.page_size c.lent.view_is c.state_fits.ensures c.if-not-state_fits.false in
+    rw (← c.lent.view_is, state, limit-handed _ _ size state c.args.freed.now c.min-popped.ensures c.if-past-start.true)
 
 pub measure-work-requires : goal.measure-work-requires
 measure-work-requires c =
-    begun _ _ c.requires (sym (c.state_fits.ensures c.args.save.«open») ∙ c.if-not-state_fits.false) c.least-popped.ensures c.if-room-past.false
+    let size = rw c.bytes-size.ensures.bytes at c.bytes-size.ensures.size in
+    let state = state_is c.args.page_size c.lent.view_is c.state_fits.ensures c.if-not-state_fits.false in
+    rw (← c.lent.view_is) (begun _ _ size state c.min-popped.ensures c.if-past-start.false)
 
-pub returns-then-work : goal.returns-then-work
+pub returns-then-work-clause-judged : goal.returns-then-work-clause-judged
 unfolding finish
-returns-then-work c =
-    let state = sym (c.state_fits.ensures c.args.save.«open») ∙ c.if-not-state_fits.false in
-    rw (state, limit_past _ _ c.requires state c.args.freed.now c.measure-work.ensures c.if-work.true)
+returns-then-work-clause-judged c =
+    let size = rw c.bytes-size.ensures.bytes at c.bytes-size.ensures.size in
+    let state = state_is c.args.page_size c.lent.view_is c.state_fits.ensures c.if-not-state_fits.false in
+    let work = rw (← c.lent.view_is) at c.measure-work.ensures in
+    rw (← c.lent.view_is, state, limit_past _ _ size state c.args.freed.now work c.if-work.true)
 
-pub returns-then-bad-freed : goal.returns-then-bad-freed
+pub returns-in-Some-clause-judged : goal.returns-in-Some-clause-judged
 unfolding finish
-returns-then-bad-freed c =
-    let v = save_with c.args.save c.args.pages.now c.args.entries.now in
-    let freed = c.args.freed.now in
-    let state = sym (c.state_fits.ensures c.args.save.«open») ∙ c.if-not-state_fits.false in
-    rw (state, limit_is _ _ c.requires state freed c.measure-work.ensures c.if-work.false, bad_is v freed c.least-popped.ensures c.first_bad-bad.ensures, ne_eqb _ _ c.if-bad-freed.true)
+returns-in-Some-clause-judged c =
+    let v = save_of c.lent.inside.save.start c.lent.inside.save.«open» c.lent.inside.pages.now c.lent.inside.entries.now in
+    let size = rw c.bytes-size.ensures.bytes at c.bytes-size.ensures.size in
+    let state = state_is c.args.page_size c.lent.view_is c.state_fits.ensures c.if-not-state_fits.false in
+    let work = rw (← c.lent.view_is) at c.measure-work.ensures in
+    let bad = bad_is v c.args.freed.now c.min-popped.ensures c.first_bad.ensures c.in-Some.is in
+    rw (← c.lent.view_is, state, limit_is _ _ size state c.args.freed.now work c.if-work.false, bad.0, bad.1)
 
-pub returns-then-not-tables_fit : goal.returns-then-not-tables_fit
+pub returns-then-not-tables_fit-clause-judged : goal.returns-then-not-tables_fit-clause-judged
 unfolding finish
-returns-then-not-tables_fit c =
-    let s = c.args.page_size in
-    let v = save_with c.args.save c.args.pages.now c.args.entries.now in
-    let freed = c.args.freed.now in
-    let state = sym (c.state_fits.ensures c.args.save.«open») ∙ c.if-not-state_fits.false in
-    let tables = tables_are s v freed c.measure-work.ensures (length c.args.pages.now) (length c.args.entries.now) c.tables_fit.ensures c.if-not-tables_fit.true in
-    rw (state, limit_is _ _ c.requires state freed c.measure-work.ensures c.if-work.false, bad_is v freed c.least-popped.ensures c.first_bad-bad.ensures, eq-eqb _ _ c.if-bad-freed.false, tables)
+returns-then-not-tables_fit-clause-judged c =
+    let v = save_of c.lent.inside.save.start c.lent.inside.save.«open» c.lent.inside.pages.now c.lent.inside.entries.now in
+    let size = rw c.bytes-size.ensures.bytes at c.bytes-size.ensures.size in
+    let state = state_is c.args.page_size c.lent.view_is c.state_fits.ensures c.if-not-state_fits.false in
+    let work = rw (← c.lent.view_is) at c.measure-work.ensures in
+    let tables = tables_are c.args.page_size _ c.args.freed.now work _ _ c.tables_fit.ensures c.if-not-tables_fit.true in
+    rw (← c.lent.view_is, state, limit_is _ _ size state c.args.freed.now work c.if-work.false, all_good v c.args.freed.now c.min-popped.ensures c.first_bad.ensures c.in_default.is, tables)
 
 pub pages_fit-requires : goal.pages_fit-requires
-pages_fit-requires c = omega (arith, page_least c.requires)
+pages_fit-requires c = omega (arith, page_least c.bytes-size.ensures.size)
 
-pub returns-then-not-pages_fit : goal.returns-then-not-pages_fit
+pub returns-then-not-pages_fit-clause-judged : goal.returns-then-not-pages_fit-clause-judged
 unfolding finish
-returns-then-not-pages_fit c =
-    let s = c.args.page_size in
-    let v = save_with c.args.save c.args.pages.now c.args.entries.now in
-    let freed = c.args.freed.now in
-    let state = sym (c.state_fits.ensures c.args.save.«open») ∙ c.if-not-state_fits.false in
-    let tables = tables_are s v freed c.measure-work.ensures (length c.args.pages.now) (length c.args.entries.now) c.tables_fit.ensures c.if-not-tables_fit.false in
-    let room = pages_are s v freed c.measure-work.ensures c.args.bytes c.args.places c.pages_fit.ensures c.if-not-pages_fit.true in
-    rw (state, limit_is _ _ c.requires state freed c.measure-work.ensures c.if-work.false, bad_is v freed c.least-popped.ensures c.first_bad-bad.ensures, eq-eqb _ _ c.if-bad-freed.false, tables, room)
+returns-then-not-pages_fit-clause-judged c =
+    let v = save_of c.lent.inside.save.start c.lent.inside.save.«open» c.lent.inside.pages.now c.lent.inside.entries.now in
+    let size = rw c.bytes-size.ensures.bytes at c.bytes-size.ensures.size in
+    let state = state_is c.args.page_size c.lent.view_is c.state_fits.ensures c.if-not-state_fits.false in
+    let work = rw (← c.lent.view_is) at c.measure-work.ensures in
+    let tables = tables_are c.args.page_size _ c.args.freed.now work _ _ c.tables_fit.ensures c.if-not-tables_fit.false in
+    let room = pages_are c.args.page_size _ c.args.freed.now work _ _ (rw c.bytes-size.ensures.bytes at c.pages_fit.ensures) c.if-not-pages_fit.true in
+    rw (← c.lent.view_is, state, limit_is _ _ size state c.args.freed.now work c.if-work.false, all_good v c.args.freed.now c.min-popped.ensures c.first_bad.ensures c.in_default.is, tables, room)
 
-pub returns : goal.returns
+pub returns-clause-judged : goal.returns-clause-judged
 unfolding finish
-returns c =
-    let s = c.args.page_size in
-    let v = save_with c.args.save c.args.pages.now c.args.entries.now in
-    let freed = c.args.freed.now in
-    let state = sym (c.state_fits.ensures c.args.save.«open») ∙ c.if-not-state_fits.false in
-    let tables = tables_are s v freed c.measure-work.ensures (length c.args.pages.now) (length c.args.entries.now) c.tables_fit.ensures c.if-not-tables_fit.false in
-    let room = pages_are s v freed c.measure-work.ensures c.args.bytes c.args.places c.pages_fit.ensures c.if-not-pages_fit.false in
-    rw (state, limit_is _ _ c.requires state freed c.measure-work.ensures c.if-work.false, bad_is v freed c.least-popped.ensures c.first_bad-bad.ensures, eq-eqb _ _ c.if-bad-freed.false, tables, room)
-    (ap answer c.measure-work.ensures)
+returns-clause-judged c =
+    let v = save_of c.lent.inside.save.start c.lent.inside.save.«open» c.lent.inside.pages.now c.lent.inside.entries.now in
+    let size = rw c.bytes-size.ensures.bytes at c.bytes-size.ensures.size in
+    let state = state_is c.args.page_size c.lent.view_is c.state_fits.ensures c.if-not-state_fits.false in
+    let work = rw (← c.lent.view_is) at c.measure-work.ensures in
+    let tables = tables_are c.args.page_size _ c.args.freed.now work _ _ c.tables_fit.ensures c.if-not-tables_fit.false in
+    let room = pages_are c.args.page_size _ c.args.freed.now work _ _ (rw c.bytes-size.ensures.bytes at c.pages_fit.ensures) c.if-not-pages_fit.false in
+    rw (← c.lent.view_is, state, limit_is _ _ size state c.args.freed.now work c.if-work.false, all_good v c.args.freed.now c.min-popped.ensures c.first_bad.ensures c.in_default.is, tables, room)
+    (ap answer work)

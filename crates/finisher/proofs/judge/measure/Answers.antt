@@ -1,29 +1,39 @@
--- `measure` meets its contract: a save that changes nothing keeps all; another's work is counted from its plan.
-use Rattle.std.proofs.Common.{◌≡◌, ◌&&◌, ℕ, false, eq-eqb, ne_eqb}
+-- `measure`: a save that changes nothing keeps all; another's work is counted from its plan.
+use Rattle.std.proofs.Common.{◌≡◌, ℕ, List}
+use Rattle.page.specs.PageSize.{capacity}
+use Rattle.preallocate.specs.Plan.{plan_of}
+use Rattle.preallocate.specs.Counts.{counts, Makes}
+use Rattle.preallocate.specs.Lists.{SizedList}
+use Rattle.preallocate.specs.declared.turns.Plan.{Plan as Counts}
+use Rattle.allocator.specs.OpenSave.{Save, list_of}
 use Rattle.finisher.proofs.judge.measure.Goals as goal
 use native.Mathlib.Omega.{arith}
-use mathlib.Core.Path.{◌∙◌}
-use mathlib.Core.Logic.{◌⊎◌, ⊎_elim}
-use lib.Dec.{eqb}
-use Rattle.finisher.proofs.JudgeLaws.{begun_planable, same-work, changed-work, count_small, listed_small}
+use mathlib.Core.Path.{sym, ◌∙◌}
+use Rattle.finisher.proofs.JudgeLaws.{begun_poppable, same-work, changed-work, count_small, listed_small}
 
--- something was popped or freed
-changed : {k n : ℕ} → (k ≡ 0 × (n ≡ 0 → ⊥)) ⊎ (k ≡ 0 → ⊥) → eqb k 0 && eqb n 0 ≡ false
-changed {k} {n} e = ⊎_elim (λ w. rw (eq-eqb k 0 w.0) (ne_eqb n 0 w.1)) (λ w. rw (ne_eqb k 0 w)) e
+-- the plan is that of the save's list
+planned : {s : ℕ} {v w : Save} → v ≡ w → {m : SizedList} → m ≡ record { page_size = s; list = list_of w }
+    → (k : ℕ) (freed : List ℕ) (bump : ℕ) {before : List ℕ} {r : Counts} {after : List ℕ}
+    → Makes (plan_of (capacity m.page_size) m.list k freed bump) before r after → r ≡ counts (plan_of (capacity s) (list_of v) k freed bump)
+planned e f k freed bump made = (rw (f, ← e) at made).counted
 
-pub returns-then-freed-eq0 : goal.returns-then-freed-eq0
-returns-then-freed-eq0 c =
-    c.nothing_to_do.ensures ∙ same-work c.requires c.args.freed.now (rw (eq-eqb _ _ c.if-popped-eq0.true) (eq-eqb _ _ c.if-freed-eq0.true))
+pub returns-then-is_unchanged : goal.returns-then-is_unchanged
+returns-then-is_unchanged c =
+    rw (c.nothing_to_do.ensures, ← c.lent.view_is)
+    (same-work (rw (← c.lent.view_is) at c.requires) c.args.freed.now (sym c.is_unchanged.ensures ∙ c.if-is_unchanged.true))
 
-pub plan-planned-requires : goal.plan-planned-requires
-plan-planned-requires c = begun_planable c.requires
+pub plan-plan-requires : goal.plan-plan-requires
+plan-plan-requires c = rw c.list_of.ensures.list (begun_poppable c.requires)
 
-pub overflow_add-count : goal.overflow_add-count
-overflow_add-count c = omega (arith, count_small c.requires c.args.freed.now (changed c.else-popped-eq0.either) c.plan-planned.ensures.counted, c)
+pub overflow_add-pages : goal.overflow_add-pages
+overflow_add-pages c =
+    omega (arith, c, count_small (rw (← c.lent.view_is) at c.requires) c.args.freed.now (sym c.is_unchanged.ensures ∙ c.if-is_unchanged.false) (planned c.lent.view_is c.list_of.ensures.list c.args.popped c.args.freed.now c.args.bump c.plan-plan.ensures))
 
--- src/judge.rt:108:18
 pub overflow_add-result : goal.overflow_add-result
-overflow_add-result c = omega (arith, listed_small c.requires c.args.freed.now (changed c.else-popped-eq0.either) c.plan-planned.ensures.counted, c)
+overflow_add-result c =
+    omega (arith, c, listed_small (rw (← c.lent.view_is) at c.requires) c.args.freed.now (sym c.is_unchanged.ensures ∙ c.if-is_unchanged.false) (planned c.lent.view_is c.list_of.ensures.list c.args.popped c.args.freed.now c.args.bump c.plan-plan.ensures))
 
 pub returns : goal.returns
-returns c = rw c.one_less.ensures (changed-work c.requires c.args.freed.now (changed c.else-popped-eq0.either) c.plan-planned.ensures.counted)
+returns c =
+    rw (c.saturating_sub.ensures, ← c.lent.view_is)
+    (changed-work (rw (← c.lent.view_is) at c.requires) c.args.freed.now (sym c.is_unchanged.ensures ∙ c.if-is_unchanged.false) (planned c.lent.view_is c.list_of.ensures.list c.args.popped c.args.freed.now c.args.bump c.plan-plan.ensures))
