@@ -9,9 +9,9 @@ use mathlib.Core.Bool.{Bool, true, false, ◌&&◌}
 use mathlib.Core.List.{List, [], map, append-nil, Memᴰ}
 use lib.Dec.{eqb}
 use lib.ListN.{length, get_or, take, drop, length-drop}
-use lib.Seq.{sets, length-take-le, get_or-take}
+use lib.Seq.{sets, length-take-le}
 use Rattle.std.proofs.lemmas.List.{drop-take}
-use Rattle.page.specs.PageSize.{IsPageSize, capacity}
+use Rattle.page.specs.PageSize.{capacity}
 use Rattle.page.specs.Growth.{max_bump}
 use Rattle.page.specs.Pages.{Write}
 use Rattle.laws.proofs.SetsLaws.{take-sets, sets-kept}

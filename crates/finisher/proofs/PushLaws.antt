@@ -238,10 +238,6 @@ module _ (c : ℕ) (l : FreeList) (k : ℕ) (freed : List ℕ) (bump : ℕ) (pos
         told : Pushing (plan_of c l k freed bump) → Pushes c l freed (mends c l k) (length l.pages - (length (plan_of c l k freed bump).pushed - length freed)) (plan_of c l k freed bump)
         told (low, p) = subst (λ (n : ℕ). Pushes c l freed (mends c l k) n (plan_of c l k freed bump)) (omega (arith, p.many, p.most)) p
 
-    -- what is left fits on the pages kept
-    pub plan-bounded : Bounded c l k (plan_of c l k freed bump)
-    plan-bounded = (plan_run c l k freed bump Pushing pos shape pushes_first pushes_turns).0
-
     -- it is no shorter than the freed numbers, and longer by no more than the pages
     pub plan-longer : length freed ≤ length (plan_of c l k freed bump).pushed
     plan-longer = omega (arith, plan-pushes.many)

@@ -7,7 +7,7 @@ use mathlib.Core.Path.{◌≡◌, refl, ap, sym, ◌∙◌}
 use mathlib.Core.Bool.{Bool, true, false, ◌&&◌, ◌||◌, cond}
 use mathlib.Core.List.{List, [], ◌∷◌, reverse}
 use lib.Dec.{leb, ltb, eqb}
-use lib.ListN.{length, get_or, take, drop, set, length-drop, length-reverse}
+use lib.ListN.{length, get_or, take, drop, set, length-reverse}
 use lib.Seq.{sets, take-suc, length-take-le, length-sets}
 use Rattle.std.specs.Prelude.{Option, Some, None}
 use Rattle.std.specs.List.{position_or_len, swap}
@@ -62,8 +62,13 @@ module _ (limit : ℕ) (ns : List ℕ) where
 pub push_more : (l m pages : List ℕ) (at i : ℕ) → i < length pages → m ≡ sets l at (take i (reverse pages))
     → set m (at + i) (get_or pages (length pages - 1 - i) 0) ≡ sets l at (take (i + 1) (reverse pages))
 push_more l m pages at i inside e =
-    rw (← get_or-reverse pages i 0 inside, add-one i, take-suc (reverse pages) i 0 (rw length-reverse inside),
-      sets-snoc l at (take i (reverse pages)) (get_or (reverse pages) i 0) i (length-take-le i (reverse pages) (rw length-reverse (omega arith))), ← e)
+    rw (
+      ← get_or-reverse pages i 0 inside,
+      add-one i,
+      take-suc (reverse pages) i 0 (rw length-reverse inside),
+      sets-snoc l at (take i (reverse pages)) (get_or (reverse pages) i 0) i (length-take-le i (reverse pages) (rw length-reverse (omega arith))),
+      ← e,
+    )
 
 -- ---- the push list
 

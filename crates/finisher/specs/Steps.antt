@@ -1,5 +1,5 @@
 -- The finish's work in parts. Only private functions cite these.
-use Rattle.std.specs.Prelude.{ℕ, ◌+◌, ◌*◌, ◌-◌, min, ◌≤◌, ◌≡◌, Bool, true, false, ◌&&◌, cond, List, [], ◌∷◌, ◌++◌, reverse, leb, ltb, eqb, length, get_or, take, drop, Option, position, ◌||◌, Result}
+use Rattle.std.specs.Prelude.{ℕ, ◌+◌, ◌-◌, min, ◌≤◌, ◌≡◌, Bool, true, false, ◌&&◌, cond, List, [], ◌∷◌, ◌++◌, reverse, leb, ltb, eqb, length, get_or, take, drop, Option, position, ◌||◌, Result}
 use Rattle.std.proofs.lemmas.List.Edits.{sets}
 use Rattle.refusal.specs.Outcome.{Outcome, answer, with_answer}
 use Rattle.refusal.specs.Refusals.{outcome}

@@ -41,7 +41,8 @@ pub(crate) fn carry_out(
     fill_numbers(page_size, &lent, work, freed, numbers);
     write_tables(page_size, save, work, freed, numbers, pages, entries);
     let list = LentList::new(page_size, &pages[..work.pages], &entries[..work.entries]);
-    encode_pages(&list, work.plan.pages.saturating_sub(1), buffer);
+    let first = work.plan.pages.saturating_sub(1);
+    encode_pages(&list, first, buffer);
 }
 
 // The numbers of the pages to be written: the top page's, if one is kept, and the new pages'.
@@ -64,13 +65,7 @@ fn fill_numbers(
 }
 
 // The numbers of the new pages: the plan is made again, this time with room for them.
-fn new_pages(
-    page_size: PageSize,
-    lent: &LentSave,
-    work: Work,
-    freed: &[u32],
-    numbers: &mut [u32],
-)
+fn new_pages(page_size: PageSize, lent: &LentSave, work: Work, freed: &[u32], numbers: &mut [u32])
     requires { Doable page_size lent.now freed.now work }
     ensures { numbers.new ≡ sets numbers.old 0 (plan_for page_size lent.now freed.now).fresh }
 {

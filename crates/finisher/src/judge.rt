@@ -84,13 +84,7 @@ pub(crate) fn list_of<'a>(page_size: PageSize, lent: &LentSave<'a>) -> LentList<
 }
 
 // The work of a save with so many pops and this bump.
-fn measure(
-    page_size: PageSize,
-    lent: &LentSave,
-    popped: usize,
-    bump: usize,
-    freed: &[u32],
-) -> Work
+fn measure(page_size: PageSize, lent: &LentSave, popped: usize, bump: usize, freed: &[u32]) -> Work
     requires { Begun page_size lent.now popped bump }
     ensures { result ≡ work_of page_size lent.now freed.now }
 {

@@ -17,7 +17,7 @@ use Rattle.free_list.specs.Shape.{FreeList}
 use Rattle.preallocate.specs.declared.turns.Plan.{Plan as Counts}
 use Rattle.preallocate.specs.Counts.{narrow}
 use Rattle.preallocate.specs.Steps.{room_of, whole_of, last_of, top_swapped, bump_taken, entry_taken, last_taken, taken, named, stepped, step_names, planned, new_pages, work, Packed, Small, Short, Due, Took, Planned}
-use Rattle.laws.proofs.ProductLaws.{times_less, times_positive, times_least}
+use Rattle.laws.proofs.ProductLaws.{times_less, times_positive}
 
 -- ---- the cases of a turn
 
@@ -117,9 +117,6 @@ module _ {c : ℕ} {l : FreeList} {p : Counts} (packed : Packed c l p) where
   -- ---- the sums have 64 bits
 
   module _ (small : Small c p) (s : Short c p) where
-    pub fresh-small : p.fresh + 2 < 2 ^ 64
-    fresh-small = omega (arith, times_least c (p.pages + p.fresh) (omega arith))
-
     pub small-swapped : 0 < p.pages → p.entries ≡ c * p.pages → Small c (top_swapped l p)
     small-swapped h w = let f = times_less c p.pages h in omega arith
 

@@ -37,11 +37,11 @@ new-list-requires c = shape_is (goes_doable c.requires c.if-work-eq0.false) c.wr
 pub encode_pages-requires : goal.encode_pages-requires
 encode_pages-requires c =
     let h = goes_doable c.requires c.if-work-eq0.false in
-    rw c.new-list.ensures.list (encodable h c.saturating_sub.ensures (list_is h c.write_tables.ensures) (bytes_enough c.requires))
+    rw c.new-list.ensures.list (encodable h c.saturating_sub-first.ensures (list_is h c.write_tables.ensures) (bytes_enough c.requires))
 
 pub returns : goal.returns
 returns c =
     let h = goes_doable c.requires c.if-work-eq0.false in
-    let buffer = buffer-carried h c.saturating_sub.ensures (list_is h c.write_tables.ensures) c.args.buffer.now (rw c.new-list.ensures.list at c.encode_pages.ensures) in
+    let buffer = buffer-carried h c.saturating_sub-first.ensures (list_is h c.write_tables.ensures) c.args.buffer.now (rw c.new-list.ensures.list at c.encode_pages.ensures) in
     let numbers = numbers_carried h c.args.numbers.now c.fill_numbers.ensures in
     λ i. record { tables = c.write_tables.ensures i; room = record { buffer = buffer i; numbers = numbers i } }

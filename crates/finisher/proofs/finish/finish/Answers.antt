@@ -1,5 +1,4 @@
 -- `finish`: what was judged is the outcome, and the work is written.
-use Rattle.std.proofs.Common.{◌≡◌}
 use Rattle.refusal.specs.Effect.{effect}
 use Rattle.finisher.specs.Finish.{FinishLent, finish_into}
 use Rattle.finisher.specs.Answers.{save_with}

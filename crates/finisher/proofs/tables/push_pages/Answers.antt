@@ -1,9 +1,9 @@
-use Rattle.std.proofs.Common.{◌≡◌, length, reverse, take}
+use Rattle.std.proofs.Common.{◌≡◌, length, reverse}
 use Rattle.finisher.proofs.tables.push_pages.Goals as goal
-use mathlib.Core.Path.{refl, ap, ◌∙◌}
+use mathlib.Core.Path.{refl, ◌∙◌}
 use native.Mathlib.Omega.{arith}
 use lib.ListN.{length-reverse}
-use lib.Seq.{sets, take-length}
+use lib.Seq.{take-length}
 use Rattle.finisher.proofs.TablesLaws.{push_more}
 
 pub loop-i-init : goal.loop-i-init

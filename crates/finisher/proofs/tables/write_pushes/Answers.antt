@@ -1,6 +1,5 @@
 -- `write_pushes`: the freed numbers, the pages behind them, and the first two of these in turn where asked.
 use Rattle.finisher.proofs.tables.write_pushes.Goals as goal
-use native.Mathlib.Omega.{arith}
 use Rattle.finisher.proofs.TablesLaws.{pushes_ordinary, pushes_mended}
 
 pub returns-then-mended : goal.returns-then-mended
