@@ -1,2 +1,2 @@
--- Laws that the proofs of this crate share.
+-- What was handed out, as it is told (`SavesLaws`).
 pub mod SavesLaws

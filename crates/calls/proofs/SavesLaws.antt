@@ -1,20 +1,22 @@
 -- Handing out where the save stands, as a C call: what was counted up goes to `out` behind the number.
 use Prim.Native.Nat.{ℕ}
-use mathlib.Core.Path.{◌≡◌, refl, sym, ap, ◌∙◌}
+use mathlib.Core.Path.{◌≡◌, refl, ap, ◌∙◌}
 use mathlib.Core.List.{List, [], ◌∷◌}
+use Rattle.std.specs.Prelude.{Result, Ok, Err}
 use Rattle.refusal.specs.Outcome.{Outcome, answer, refused}
+use Rattle.refusal.specs.Refusals.{outcome}
 use Rattle.refusal.specs.Effect.{nothing, Effect, effect, leaves, Called, called}
+use Rattle.refusal.specs.declared.Refusal.{Refusal}
 use Rattle.allocator.specs.OpenSave.{Save, HandedOut, hand_out, Counters, counters, count_up}
-use Rattle.allocator.specs.Answers.{handed_outcome, counters_of}
-use Rattle.allocator.specs.declared.save.OpenSave.{OpenSave}
-use Rattle.allocator.specs.declared.allocate.HandedOut.{HandedOut as HandedOutEnum}
-use Rattle.calls.specs.Saves.{handed_values}
+use Rattle.allocator.specs.Answers.{handed_effect}
+use Rattle.allocator.specs.declared.allocate.Handed.{Handed}
+use Rattle.calls.specs.Saves.{handed_values, handed_told}
 
 -- the number, and behind it the counters
-abbrev pub with_counters : Counters → ℕ → List ℕ
+abbrev with_counters : Counters → ℕ → List ℕ
 with_counters k n = n ∷ k.handed ∷ k.recorded ∷ []
 
-abbrev pub counted : List ℕ → Effect ℕ Counters → Called (Unit {0})
+abbrev counted : List ℕ → Effect ℕ Counters → Called (Unit {0})
 counted out e = called (with_counters e.lent) out (effect e.outcome nothing)
 
 handed_out : (s : ℕ) (v : Save) (out : List ℕ) → counted out (count_up s v) ≡ called handed_values out (effect (hand_out s v) nothing)
@@ -26,8 +28,11 @@ handed_out s v out = by_outcome (hand_out s v)
     by_outcome (answer h) = refl
     by_outcome (refused number values) = refl
 
--- the code answered r, which is q, and left the open save o
-pub hands_out : (s : ℕ) (v : Save) (out : List ℕ) (o : OpenSave) {r q : HandedOutEnum} → effect (handed_outcome r) (counters_of o) ≡ count_up s v → r ≡ q
-    → called (with_counters (counters_of o)) out (effect (handed_outcome q) nothing) ≡ called handed_values out (effect (hand_out s v) nothing)
-hands_out s v out o e t =
-    ap (λ (x : HandedOutEnum). called (with_counters (counters_of o)) out (effect (handed_outcome x) nothing)) (sym t) ∙ ap (counted out) e ∙ handed_out s v out
+as_told : (k : Counters) (out : List ℕ) (r : Result Handed Refusal) → called (λ vs. vs) out (effect (outcome handed_told r) nothing) ≡ counted out (handed_effect k r)
+as_told k out (Ok h) = refl
+as_told k out (Err r) = refl
+
+-- what the code answered, told as it stands
+pub hands_out : (s : ℕ) (v : Save) (out : List ℕ) (r : Result Handed Refusal) → handed_effect (counters v) r ≡ count_up s v
+    → called (λ vs. vs) out (effect (outcome handed_told r) nothing) ≡ called handed_values out (effect (hand_out s v) nothing)
+hands_out s v out r e = as_told (counters v) out r ∙ ap (counted out) e ∙ handed_out s v out

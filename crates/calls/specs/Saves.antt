@@ -3,6 +3,7 @@ use Rattle.std.specs.Prelude.{ℕ, ◌≡◌, List, [], ◌∷◌}
 use Rattle.refusal.specs.Effect.{Lent, LentMut, given, before, after, nothing, effect, called, left}
 use Rattle.allocator.specs.OpenSave.{Save, HandedOut, hand_out}
 use Rattle.allocator.specs.declared.save.Save.{Save as SaveStruct}
+use Rattle.allocator.specs.declared.allocate.Handed.{Handed}
 use Rattle.finisher.specs.Finish.{FinishAnswer, finish_room, finish_lent, finish_into}
 
 -- an open save as a host lends it: its bump, recorded length, P, L and numbers handed out, and the two tables
@@ -18,6 +19,10 @@ save_of bump length p l count =
 -- the number, and how many numbers are handed out and the recorded length after it
 abbrev pub handed_values : HandedOut → List ℕ
 handed_values h = h.number ∷ h.save.handed ∷ h.save.recorded ∷ []
+
+-- the same of what the code handed out
+abbrev pub handed_told : Handed → List ℕ
+handed_told h = h.number.0 ∷ h.«open».allocations.0 ∷ h.«open».length ∷ []
 
 abbrev pub HandsOut : ℕ → ℕ → ℕ → ℕ → ℕ → ℕ → Lent → Lent → LentMut → ℕ → Type 0
 HandsOut s bump length p l count pages entries out r =

@@ -30,5 +30,13 @@ pub fn read_list(
     ensures { ReadsList page_size store head pages entries out result }
 {
     let store = Store::new(page_size, store);
-    report(read(&store, Reading::Strict, PageNumber(head), Tables { pages, entries }), out)
+    report(
+        read(
+            &store,
+            Reading::Strict,
+            PageNumber(head),
+            Tables { pages, entries },
+        ),
+        out,
+    )
 }

@@ -1,12 +1,36 @@
 // The open save: handing out numbers, and finishing.
-ghost use Rattle.std.specs.Prelude.{◌≡◌};
-ghost use Rattle.calls.specs.Saves.{save_of, HandsOut, Finishes};
+ghost use Rattle.std.specs.Prelude.{◌≡◌, [], ◌∷◌};
+ghost use Rattle.calls.specs.Saves.{save_of, handed_told, HandsOut, Finishes};
 
-use allocator::allocate::HandedOut;
-use allocator::save::{OpenSave, Save, Start};
-use finisher::finish::Finishing;
+use crate::told::{Told, report};
+use allocator::allocate::{Handed, allocate};
+use allocator::save::{LentSave, OpenSave, Save, Start};
+use finisher::finish::StoreMeta;
 use page::number::Allocations;
 use page::size::PageSize;
+
+impl Told for Handed {
+    ghost values = { handed_told };
+
+    fn tell(self, out: &mut [u64; 8]) {
+        out[0] = self.number.0 as u64;
+        out[1] = self.open.allocations.0 as u64;
+        out[2] = self.open.length as u64;
+    }
+}
+
+impl Told for StoreMeta {
+    ghost values = { λ m. m.head.0 ∷ m.bump ∷ m.length ∷ m.pages ∷ m.entries ∷ m.written ∷ [] };
+
+    fn tell(self, out: &mut [u64; 8]) {
+        out[0] = self.head.0 as u64;
+        out[1] = self.bump as u64;
+        out[2] = self.length as u64;
+        out[3] = self.pages as u64;
+        out[4] = self.entries as u64;
+        out[5] = self.written as u64;
+    }
+}
 
 // An open save from its numbers.
 fn save_of(bump: u32, length: u32, p: u64, l: u64, count: u64) -> Save
@@ -40,17 +64,12 @@ pub fn hand_out(
     ensures { HandsOut page_size bump length p l count pages entries out result }
 {
     let save = save_of(bump, length, p, l, count);
-    let handed = allocator::open_save::hand_out(page_size, save.start, save.open, pages, entries);
-    let answer = handed.answer;
-    match answer {
-        HandedOut::Number(number) => {
-            out[0] = number.0 as u64;
-            out[1] = handed.open.allocations.0 as u64;
-            out[2] = handed.open.length as u64;
-            0
-        }
-        HandedOut::Refused(r) => r.report(out),
-    }
+    let lent = LentSave {
+        save,
+        pages,
+        entries,
+    };
+    report(allocate(page_size, &lent), out)
 }
 
 // out: head, bump, recorded length, P, L, pages written. Refusal 8: the place of the freed number.
@@ -71,16 +90,8 @@ pub fn finish(
     ensures { Finishes page_size bump length p l count pages entries freed buffer numbers out result }
 {
     let save = save_of(bump, length, p, l, count);
-    match finisher::finish::finish(page_size, save, pages, entries, freed, buffer, numbers) {
-        Finishing::Finished(meta) => {
-            out[0] = meta.head.0 as u64;
-            out[1] = meta.bump as u64;
-            out[2] = meta.length as u64;
-            out[3] = meta.pages as u64;
-            out[4] = meta.entries as u64;
-            out[5] = meta.written as u64;
-            0
-        }
-        Finishing::Refused(r) => r.report(out),
-    }
+    report(
+        finisher::finish::finish(page_size, save, pages, entries, freed, buffer, numbers),
+        out,
+    )
 }

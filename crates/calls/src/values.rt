@@ -82,7 +82,10 @@ pub fn read_value(
 ) -> u32
     ensures { ReadsValue page_size cell store numbers value out result }
 {
-    report(read(&Store::new(page_size, store), cell, numbers, value), out)
+    report(
+        read(&Store::new(page_size, store), cell, numbers, value),
+        out,
+    )
 }
 
 // out: numbers found. Refusals 14, 15 and 16: the index in the walk.
