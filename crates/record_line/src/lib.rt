@@ -1,5 +1,6 @@
-// A line of recorded numbers: read from bytes into a table, and then taken from and compared with.
+// A line of recorded numbers: read from text, then taken off its front and compared with.
 #![tactic(auto)]
 
-pub mod numbers;
-pub mod reading;
+pub mod fault;
+pub mod fields;
+pub mod text;

@@ -4,35 +4,38 @@
 // `store[]`, is its length and its elements. One that comes out is its elements alone; its length goes in.
 #![tactic(auto)]
 
-use lists::{replay_finish, replay_hand_out, replay_read_list};
-use lookups::replay_lookup;
-use record_line::numbers::number;
-use totals::{replay_grow, replay_total};
-use values::{
-    replay_decode_cell, replay_delete_value, replay_encode_cell, replay_read_value,
-    replay_write_page,
-};
+use crate::kind::Kind;
+use record_line::fault::Fault;
+use record_line::fields::Fields;
+use std::alloc::Global;
 
+mod kind;
 mod lists;
 mod lookups;
 mod pages;
 mod totals;
 mod values;
 
-// The call that the first number names.
-pub fn replay(line: &[u64]) -> bool {
-    match number(line, 0) {
-        1 => replay_grow(line),
-        2 => replay_total(line),
-        3 => replay_read_list(line),
-        4 => replay_hand_out(line),
-        5 => replay_finish(line),
-        6 => replay_write_page(line),
-        7 => replay_encode_cell(line),
-        8 => replay_decode_cell(line),
-        9 => replay_read_value(line),
-        10 => replay_delete_value(line),
-        11 => replay_lookup(line),
-        _ => false,
+// Makes the call that the first number names. `Wrong` says that it gives other numbers than the line, or that there is no such call.
+pub fn replay(alloc: Global, line: &[u64]) -> Result<(), Fault> {
+    let mut fields = Fields::new(alloc, line);
+    let kind = Kind::try_from(fields.number::<u64>()?)?;
+    replay_kind(kind, &mut fields)?;
+    fields.expect_end()
+}
+
+fn replay_kind(kind: Kind, fields: &mut Fields<'_>) -> Result<(), Fault> {
+    match kind {
+        Kind::Grow => totals::grow(fields),
+        Kind::Total => totals::total(fields),
+        Kind::ReadList => lists::read_list(fields),
+        Kind::HandOut => lists::hand_out(fields),
+        Kind::Finish => lists::finish(fields),
+        Kind::WritePage => values::write_page(fields),
+        Kind::EncodeCell => values::encode_cell(fields),
+        Kind::DecodeCell => values::decode_cell(fields),
+        Kind::ReadValue => values::read_value(fields),
+        Kind::DeleteValue => values::delete_value(fields),
+        Kind::Lookup => lookups::lookup(fields),
     }
 }

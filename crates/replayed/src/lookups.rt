@@ -1,77 +1,43 @@
 // Page lookup: among the pending pages of a save, and in the store.
-use crate::pages::{part_agrees, words};
-use lookup::lookup::lookup;
+use crate::pages::page_size;
 use page::number::PageNumber;
 use page::size::PageSize;
-use record_line::numbers::{
-    FILLER, after_byte_array, after_reply, after_word, after_word_array, behind, count,
-    count_bytes, number, taken_bytes, taken_words, word,
-};
+use record_line::fault::Fault;
+use record_line::fields::{BLANK_OUT, Fields};
 use sized::sized_lookup;
 
 // page size, page, numbers[] pending[] store[] | status out
-pub fn replay_lookup(line: &[u64]) -> bool {
-    let pending_at = behind(line, 3);
-    let store_at = behind(line, pending_at);
-    let numbers = taken_words(line, 3);
-    let pending = taken_bytes(line, pending_at);
-    let store = taken_bytes(line, store_at);
-    let number_count = count(line, 3, &numbers);
-    let pending_bytes = count_bytes(line, pending_at, &pending);
-    let store_bytes = count_bytes(line, store_at, &store);
-    lookup_with(
-        line,
-        &numbers[..number_count],
-        &pending[..pending_bytes],
-        &store[..store_bytes],
-    )
-}
-
-fn lookup_with<'a>(line: &[u64], numbers: &[u32], pending: &'a [u8], store: &'a [u8]) -> bool {
-    let behind_numbers = after_word_array(line, after_word(line, 2), numbers);
-    let behind_pending = after_byte_array(line, behind_numbers, pending);
-    let behind_store = after_byte_array(line, behind_pending, store);
-    let mut out = [FILLER; 8];
+pub fn lookup(fields: &mut Fields<'_>) -> Result<(), Fault> {
+    let page_size = page_size(fields)?;
+    let number = fields.number()?;
+    let numbers = fields.array()?;
+    let pending = fields.array()?;
+    let store = fields.array()?;
+    let mut out = BLANK_OUT;
     let status = sized_lookup(
-        words(number(line, 1)),
-        numbers,
-        pending,
-        store,
-        word(line, 2),
+        page_size.0 as u64,
+        &numbers,
+        &pending,
+        &store,
+        number,
         &mut out,
     );
-    if !is_part(line, numbers, pending, store, status, &out) {
-        return false;
+    let page = lookup::lookup::lookup(page_size, &numbers, &pending, &store, PageNumber(number));
+    let right = match status {
+        0 if out[0] == 0 => is_part(page, &pending, out[1]),
+        0 => is_part(page, &store, out[1]),
+        _ => page.is_empty(),
+    };
+    if !right {
+        return Err(Fault::Wrong);
     }
-    after_reply(line, behind_store, status, &out) == line.len()
+    fields.expect_reply(status, &out)
 }
 
-// Whether the page, as a part of one of the two slices, stands where the answer says, and is empty after a refusal.
-fn is_part<'a>(
-    line: &[u64],
-    numbers: &[u32],
-    pending: &'a [u8],
-    store: &'a [u8],
-    status: u32,
-    out: &[u64; 8],
-) -> bool {
-    let page_size = PageSize(words(number(line, 1)) as usize);
-    let page = lookup(
-        page_size,
-        numbers,
-        pending,
-        store,
-        PageNumber(word(line, 2)),
-    );
-    if status != 0 {
-        return page.len() == 0;
-    }
-    if page.len() == 0 {
-        return false;
-    }
-    let at = out[1] as usize;
-    if out[0] == 0 {
-        return part_agrees(page, pending, at);
-    }
-    part_agrees(page, store, at)
+// Whether a page stands in the slice at byte `at`.
+fn is_part(page: &[u8], slice: &[u8], at: u64) -> bool {
+    !page.is_empty()
+        && slice
+            .get(at as usize..)
+            .is_some_and(|rest| rest.starts_with(page))
 }

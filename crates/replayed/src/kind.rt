@@ -1,0 +1,39 @@
+// The kinds of calls, and the numbers that name them.
+
+use record_line::fault::Fault;
+
+#[derive(Clone, Copy, Debug, PartialEq, Eq)]
+pub enum Kind {
+    Grow,
+    Total,
+    ReadList,
+    HandOut,
+    Finish,
+    WritePage,
+    EncodeCell,
+    DecodeCell,
+    ReadValue,
+    DeleteValue,
+    Lookup,
+}
+
+impl TryFrom<u64> for Kind {
+    type Error = Fault;
+
+    fn try_from(number: u64) -> Result<Kind, Fault> {
+        match number {
+            1 => Ok(Kind::Grow),
+            2 => Ok(Kind::Total),
+            3 => Ok(Kind::ReadList),
+            4 => Ok(Kind::HandOut),
+            5 => Ok(Kind::Finish),
+            6 => Ok(Kind::WritePage),
+            7 => Ok(Kind::EncodeCell),
+            8 => Ok(Kind::DecodeCell),
+            9 => Ok(Kind::ReadValue),
+            10 => Ok(Kind::DeleteValue),
+            11 => Ok(Kind::Lookup),
+            _ => Err(Fault::Wrong),
+        }
+    }
+}
