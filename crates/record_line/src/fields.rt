@@ -1,20 +1,24 @@
 // The numbers of a line, taken off its front.
-ghost use Rattle.std.specs.Prelude.{◌≡◌, ℕ, List, ◌∷◌, ◌++◌, IfOk, OnOk, map, vec_len, Ok, [], IsOk};
+ghost use Rattle.std.specs.Prelude.{◌≡◌, ◌≢◌, ◌↔◌, ◌≤◌, ℕ, List, [], ◌∷◌, ◌++◌, Ok, IsOk, IfOk, OnOk, OnErr, IsOkUnless, MatchOption, length, map, vec_len};
+ghost use Rattle.std.specs.List.{AllClonesOf};
+ghost use Rattle.record_line.specs.Fields.{NoneFits};
 
 use crate::fault::Fault;
 use std::alloc::Global;
 use std::marker::Model;
 use std::num::TryFromIntError;
 
-// What stands before a call in tables, in buffers and in `out`.
+// What stands before a call in tables and buffers.
 pub const FILLER: u8 = 9;
 
-pub const BLANK_OUT: [u64; 8] = [9; 8];
+// What stands before a call in `out`.
+pub const BLANK_OUT: [u64; 8] = [FILLER as u64; 8];
 
 // A type whose values are numbers of a line.
 pub trait Number: Copy + Into<u64> + TryFrom<u64, Error = TryFromIntError> {
     ghost number: { Self → ℕ };
 
+    // What std's conversions give is that number.
     ghost from_number: { (n : ℕ) (x : Self) → Self.try_from_gives n (Ok x) → number x ≡ n };
 
     ghost to_number: { (x : Self) (n : ℕ) → Self.converts x n → n ≡ number x };
@@ -50,7 +54,7 @@ impl Number for u64 {
     ghost to_number = { Prim.search rules };
 }
 
-// The numbers that are not taken yet. What is taken lies in memory of the allocator.
+// The numbers that are not taken yet: clauses see the list of these. What is taken lies in memory of the allocator.
 #[derive(Drop)]
 pub struct Fields<'a> {
     alloc: Global,
@@ -75,14 +79,23 @@ impl<'a> Fields<'a> {
         self.alloc
     }
 
-    // The next number.
-    pub fn number<T: Number>(&mut self) -> Result<T, Fault>
-        ensures { IfOk result (λ n. self.old ≡ T.number n ∷ self.new) }
+    // The next number, if one is left.
+    fn next(&mut self) -> Option<u64>
+        ensures { MatchOption result (self.old ≡ []) (λ n. self.old ≡ n ∷ self.new) }
     {
-        let (first, rest) = self.rest.split_first().ok_or(Fault::Wrong)?;
-        let number = T::try_from(*first).map_err(|_| Fault::Wrong)?;
+        let (first, rest) = self.rest.split_first()?;
         self.rest = rest;
-        Ok(number)
+        Some(*first)
+    }
+
+    // The next number, as one of the type.
+    pub fn number<T: Number>(&mut self) -> Result<T, Fault>
+        ensures ok { IfOk result (λ n. self.old ≡ T.number n ∷ self.new) }
+        ensures wrong { OnErr result (NoneFits T.try_from_gives self.old) }
+        ensures err { IsOkUnless result Fault.Wrong }
+    {
+        let number = self.next().ok_or(Fault::Wrong)?;
+        T::try_from(number).map_err(|_| Fault::Wrong)
     }
 
     // The array that comes next, as its length and its elements.
@@ -98,7 +111,11 @@ impl<'a> Fields<'a> {
     }
 
     // An array to be lent, as long as the next number says. None is longer than the rest of the line, where its elements stand.
-    pub fn blank<T: Copy + Drop + From<u8>>(&mut self) -> Result<Vec<T>, Fault> {
+    pub fn blank<T: Clone + Drop + From<u8>>(&mut self) -> Result<Vec<T>, Fault>
+        ensures length { IfOk result (λ v. self.old ≡ vec_len v ∷ self.new) }
+        ensures room { IfOk result (λ v. vec_len v ≤ length self.new) }
+        ensures filled { IfOk result (λ v. (x : T) × T.from_gives FILLER x × AllClonesOf T.is_clone x v.items) }
+    {
         let count = self.number::<u64>()? as usize;
         if self.rest.len() < count {
             return Err(Fault::Wrong);
@@ -106,26 +123,45 @@ impl<'a> Fields<'a> {
         Ok(vec![in self.alloc; T::from(FILLER); count]?)
     }
 
+    // Takes this number, which has to come next.
+    fn expect_number(&mut self, number: u64) -> Result<(), Fault>
+        ensures ok { OnOk result (self.old ≡ number ∷ self.new) }
+        ensures wrong { OnErr result ((rest : List ℕ) → self.old ≢ number ∷ rest) }
+        ensures err { IsOkUnless result Fault.Wrong }
+    {
+        match self.next() {
+            Some(next) if next == number => Ok(()),
+            _ => Err(Fault::Wrong),
+        }
+    }
+
     // Takes these numbers, which have to come next.
     pub fn expect<T: Number>(&mut self, items: &[T]) -> Result<(), Fault>
-        ensures { OnOk result (self.old ≡ map T.number items.now ++ self.new) }
+        ensures ok { OnOk result (self.old ≡ map T.number items.now ++ self.new) }
+        ensures wrong { OnErr result ((rest : List ℕ) → self.old ≢ map T.number items.now ++ rest) }
+        ensures err { IsOkUnless result Fault.Wrong }
     {
         for &item in items {
-            if self.number::<u64>()? != item.into() {
-                return Err(Fault::Wrong);
-            }
+            self.expect_number(item.into())?;
         }
         Ok(())
     }
 
     // Takes a status and the eight numbers beside it.
-    pub fn expect_reply(&mut self, status: u32, out: &[u64; 8]) -> Result<(), Fault> {
+    pub fn expect_reply(&mut self, status: u32, out: &[u64; 8]) -> Result<(), Fault>
+        ensures ok { OnOk result (self.old ≡ status ∷ (out.now ++ self.new)) }
+        ensures wrong { OnErr result ((rest : List ℕ) → self.old ≢ status ∷ (out.now ++ rest)) }
+        ensures err { IsOkUnless result Fault.Wrong }
+    {
         self.expect(&[status])?;
         self.expect(out)
     }
 
     // No number is left.
-    pub fn expect_end(&self) -> Result<(), Fault> {
+    pub fn expect_end(&self) -> Result<(), Fault>
+        ensures end { IsOk result ↔ (self.now ≡ []) }
+        ensures err { IsOkUnless result Fault.Wrong }
+    {
         if self.rest.is_empty() {
             Ok(())
         } else {

@@ -3,4 +3,6 @@
 
 pub mod fault;
 pub mod fields;
+#[cfg(test)]
+mod tests;
 pub mod text;

@@ -1,23 +1,29 @@
 // The numbers of a line of text.
-ghost use Rattle.std.specs.Prelude.{◌≡◌, ◌==◌, IfOk, All, map};
-ghost use Rattle.std.specs.List.{slice_split};
-ghost use Rattle.std.specs.Str.Parse.{IsNumeral, digits_value};
+ghost use Rattle.std.specs.Prelude.{◌≡◌, IfOk, IsErrOf, IsOkUnless};
+ghost use Rattle.std.specs.Result.{OkIff};
+ghost use Rattle.std.specs.Str.Parse.{digits_value};
+ghost use Rattle.record_line.specs.Text.{IsNumber, IsLine, numbers_of};
 
 use crate::fault::Fault;
 use std::alloc::Global;
 
 // The numbers, in decimal with one space between two.
-pub fn numbers(alloc: Global, line: &[u8]) -> Result<Vec<u64>, Fault> {
-    let text = str::from_utf8(line).map_err(|_| Fault::Wrong)?;
+pub fn numbers(alloc: Global, line: &str) -> Result<Vec<u64>, Fault>
+    ensures ok { IfOk result (λ v. IsLine line.now × (v.items ≡ numbers_of line.now)) }
+    ensures wrong { IsErrOf result Fault.Wrong → ¬ (IsLine line.now) }
+{
     let mut numbers = Vec::new(alloc);
-    for field in text.split(' ') {
+    for field in line.split(' ') {
         numbers.push(number(field)?)?;
     }
     Ok(numbers)
 }
 
 // The number that digits write. A sign is refused.
-fn number(field: &str) -> Result<u64, Fault> {
+fn number(field: &str) -> Result<u64, Fault>
+    ensures value { OkIff result (IsNumber field.now) (digits_value 10 field.now) }
+    ensures err { IsOkUnless result Fault.Wrong }
+{
     if field.starts_with('+') {
         return Err(Fault::Wrong);
     }

@@ -59,5 +59,6 @@ fn is_right(alloc: Global, line: &[u8]) -> Result<bool, Fault> {
 }
 
 fn replay_line(alloc: Global, line: &[u8]) -> Result<(), Fault> {
-    replay(alloc, &numbers(alloc, line)?)
+    let text = str::from_utf8(line).map_err(|_| Fault::Wrong)?;
+    replay(alloc, &numbers(alloc, text)?)
 }

@@ -1,5 +1,7 @@
 // The kinds of calls, and the numbers that name them.
 
+ghost use Rattle.std.specs.Prelude.{◌≡◌, MatchResult};
+
 use record_line::fault::Fault;
 
 #[derive(Clone, Copy, Debug, PartialEq, Eq)]
@@ -18,7 +20,11 @@ pub enum Kind {
 }
 
 impl TryFrom<u64> for Kind {
+    ghost use Rattle.replayed.specs.Kind.{number_of, NamesNone};
+
     type Error = Fault;
+
+    ghost try_from_gives = { λ n r. MatchResult r (λ kind. n ≡ number_of kind) (λ _. NamesNone n) };
 
     fn try_from(number: u64) -> Result<Kind, Fault> {
         match number {

@@ -4,6 +4,9 @@
 // `store[]`, is its length and its elements. One that comes out is its elements alone; its length goes in.
 #![tactic(auto)]
 
+ghost use Rattle.std.specs.Prelude.{◌≡◌, ℕ, List, ◌∷◌, OnOk};
+ghost use Rattle.replayed.specs.Kind.{NamesKind};
+
 use crate::kind::Kind;
 use record_line::fault::Fault;
 use record_line::fields::Fields;
@@ -17,7 +20,9 @@ mod totals;
 mod values;
 
 // Makes the call that the first number names. `Wrong` says that it gives other numbers than the line, or that there is no such call.
-pub fn replay(alloc: Global, line: &[u64]) -> Result<(), Fault> {
+pub fn replay(alloc: Global, line: &[u64]) -> Result<(), Fault>
+    ensures { OnOk result (NamesKind line.now) }
+{
     let mut fields = Fields::new(alloc, line);
     let kind = Kind::try_from(fields.number::<u64>()?)?;
     replay_kind(kind, &mut fields)?;
@@ -37,5 +42,19 @@ fn replay_kind(kind: Kind, fields: &mut Fields<'_>) -> Result<(), Fault> {
         Kind::ReadValue => values::read_value(fields),
         Kind::DeleteValue => values::delete_value(fields),
         Kind::Lookup => lookups::lookup(fields),
+    }
+}
+
+#[cfg(test)]
+mod tests {
+    use crate::replay;
+    use std::test::Fail;
+
+    // The store of the least page grows to a chunk of 16,384 pages.
+    #[test]
+    fn a_recorded_call(rt: HostRuntime) -> Result<(), Fail> {
+        let line = [1, 2, 0, 16384, 9, 9, 9, 9, 9, 9, 9];
+        replay(rt.alloc(), &line)?;
+        Ok(())
     }
 }
