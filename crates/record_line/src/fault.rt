@@ -1,5 +1,5 @@
 // Why a line is not right, or could not be told.
-ghost use Rattle.std.specs.Prelude.{◌≡◌};
+ghost use Rattle.std.specs.Prelude.{◌≡◌, ◌↔◌, IsOk, IsOkUnless, IsTrue};
 ghost use Rattle.record_line.specs.declared.fault.Fault.TheVariants.{OutOfMemory};
 
 use std::alloc::{AllocError, AllocFailed};
@@ -23,6 +23,16 @@ impl fmt::Display for Fault {
 }
 
 impl Error for Fault {}
+
+impl Fault {
+    // `Wrong` unless this holds.
+    pub fn unless(right: bool) -> Result<(), Fault>
+        ensures ok { IsOk result ↔ IsTrue right }
+        ensures err { IsOkUnless result Fault.Wrong }
+    {
+        if right { Ok(()) } else { Err(Fault::Wrong) }
+    }
+}
 
 impl From<AllocError> for Fault {
     ghost from_gives = { λ _ e. e ≡ OutOfMemory };

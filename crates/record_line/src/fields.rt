@@ -117,9 +117,7 @@ impl<'a> Fields<'a> {
         ensures filled { IfOk result (λ v. (x : T) × T.from_gives FILLER x × AllClonesOf T.is_clone x v.items) }
     {
         let count = self.number::<u64>()? as usize;
-        if self.rest.len() < count {
-            return Err(Fault::Wrong);
-        }
+        Fault::unless(count <= self.rest.len())?;
         Ok(vec![in self.alloc; T::from(FILLER); count]?)
     }
 
@@ -162,10 +160,6 @@ impl<'a> Fields<'a> {
         ensures end { IsOk result ↔ (self.now ≡ []) }
         ensures err { IsOkUnless result Fault.Wrong }
     {
-        if self.rest.is_empty() {
-            Ok(())
-        } else {
-            Err(Fault::Wrong)
-        }
+        Fault::unless(self.rest.is_empty())
     }
 }

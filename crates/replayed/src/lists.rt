@@ -6,7 +6,6 @@ use page::size::PageSize;
 use record_line::fault::Fault;
 use record_line::fields::{BLANK_OUT, Fields};
 use sized::{sized_finish, sized_hand_out, sized_read_list};
-use std::alloc::{AllocError, Global};
 
 // size head store[], the lengths of both tables | status out pages entries
 pub fn read_list(fields: &mut Fields<'_>) -> Result<(), Fault> {
@@ -24,40 +23,21 @@ pub fn read_list(fields: &mut Fields<'_>) -> Result<(), Fault> {
         &mut entries,
         &mut out,
     );
-    if status == 0
-        && head != 0
-        && !head_is_listed(
-            fields.allocator(),
-            page_size,
-            head,
-            &store,
-            &entries,
-            out[1],
-        )?
-    {
-        return Err(Fault::Wrong);
+    if status == 0 && head != 0 {
+        let page = lookup(page_size, &[], &[], &store, PageNumber(head));
+        let of_page = page_entries(fields.allocator(), page)?;
+        Fault::unless(are_last(&of_page, &entries, out[1]))?;
     }
     fields.expect_reply(status, &out)?;
     fields.expect(&pages)?;
     fields.expect(&entries)
 }
 
-// Whether the entries of the head page are the last ones of the first `listed` places of the table.
-fn head_is_listed(
-    alloc: Global,
-    page_size: PageSize,
-    head: u32,
-    store: &[u8],
-    entries: &[u32],
-    listed: u64,
-) -> Result<bool, AllocError> {
-    let page = lookup(page_size, &[], &[], store, PageNumber(head));
-    let of_page = page_entries(alloc, page)?;
-    Ok(
-        entries
-            .get(..listed as usize)
-            .is_some_and(|all| all.ends_with(&of_page)),
-    )
+// Whether the entries of a page are the last ones of the first `listed` places of the table.
+fn are_last(of_page: &[u32], entries: &[u32], listed: u64) -> bool {
+    entries
+        .get(..listed as usize)
+        .is_some_and(|all| all.ends_with(of_page))
 }
 
 // The page size and the open save.

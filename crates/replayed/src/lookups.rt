@@ -1,7 +1,6 @@
 // Page lookup: among the pending pages of a save, and in the store.
 use crate::pages::page_size;
 use page::number::PageNumber;
-use page::size::PageSize;
 use record_line::fault::Fault;
 use record_line::fields::{BLANK_OUT, Fields};
 use sized::sized_lookup;
@@ -23,14 +22,11 @@ pub fn lookup(fields: &mut Fields<'_>) -> Result<(), Fault> {
         &mut out,
     );
     let page = lookup::lookup::lookup(page_size, &numbers, &pending, &store, PageNumber(number));
-    let right = match status {
+    Fault::unless(match status {
         0 if out[0] == 0 => is_part(page, &pending, out[1]),
         0 => is_part(page, &store, out[1]),
         _ => page.is_empty(),
-    };
-    if !right {
-        return Err(Fault::Wrong);
-    }
+    })?;
     fields.expect_reply(status, &out)
 }
 

@@ -3,11 +3,9 @@ use crate::pages::{page_numbers, page_size};
 use lookup::lookup::lookup;
 use mopsienna::values::{mopsienna_decode_cell, mopsienna_encode_cell};
 use page::number::PageNumber;
-use page::size::PageSize;
 use record_line::fault::Fault;
 use record_line::fields::{BLANK_OUT, FILLER, Fields};
 use sized::{sized_delete_value, sized_read_value, sized_write_value_page};
-use std::alloc::{AllocError, Global};
 
 // page size, index, value[] numbers[], the length of the page | status page
 pub fn write_page(fields: &mut Fields<'_>) -> Result<(), Fault> {
@@ -59,39 +57,24 @@ pub fn read_value(fields: &mut Fields<'_>) -> Result<(), Fault> {
         &mut value,
         &mut out,
     );
-    if status == 0
-        && !first_is_listed(fields.allocator(), page_size, cell.len(), &store, &numbers)?
-    {
-        return Err(Fault::Wrong);
+    if status == 0 {
+        let first = *numbers.first().ok_or(Fault::Wrong)?;
+        let page = lookup(page_size, &[], &[], &store, PageNumber(first));
+        let of_page = page_numbers(fields.allocator(), page)?;
+        Fault::unless(are_behind_cell(&of_page, &numbers, &cell))?;
     }
     fields.expect_reply(status, &out)?;
     fields.expect(&numbers)?;
     fields.expect(&value)
 }
 
-// Whether the numbers on the first page of a value stand in the table behind those of its cell.
-fn first_is_listed(
-    alloc: Global,
-    page_size: PageSize,
-    cell_bytes: usize,
-    store: &[u8],
-    numbers: &[u32],
-) -> Result<bool, AllocError> {
-    // A cell is 40 bytes and its numbers.
-    let in_cell = cell_bytes.saturating_sub(40) / 4;
-    if in_cell == 0 {
-        return Ok(false);
-    }
-    let Some(&first) = numbers.first() else {
-        return Ok(false);
-    };
-    let page = lookup(page_size, &[], &[], store, PageNumber(first));
-    let of_page = page_numbers(alloc, page)?;
-    Ok(
-        numbers
+// Whether the numbers on the first page of a value stand in the table behind those of its cell, which has 40 bytes before its own.
+fn are_behind_cell(of_page: &[u32], numbers: &[u32], cell: &[u8]) -> bool {
+    let in_cell = cell.len().saturating_sub(40) / 4;
+    in_cell != 0
+        && numbers
             .get(in_cell..)
-            .is_some_and(|behind| behind.starts_with(&of_page)),
-    )
+            .is_some_and(|behind| behind.starts_with(of_page))
 }
 
 // page size, cell[] store[], the length of the numbers | status out numbers
