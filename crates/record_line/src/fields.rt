@@ -1,6 +1,7 @@
 // The numbers of a line, taken off its front.
 ghost use Rattle.std.specs.Prelude.{◌≡◌, ◌≢◌, ◌↔◌, ◌≤◌, ℕ, List, [], ◌∷◌, ◌++◌, Ok, IsOk, IfOk, OnOk, OnErr, IsOkUnless, MatchOption, length, map, vec_len};
 ghost use Rattle.std.specs.List.{AllClonesOf};
+ghost use Rattle.std.proofs.Common.{rules};
 ghost use Rattle.record_line.specs.Fields.{NoneFits};
 
 use crate::fault::Fault;
@@ -25,8 +26,6 @@ pub trait Number: Copy + Into<u64> + TryFrom<u64, Error = TryFromIntError> {
 }
 
 impl Number for u8 {
-    ghost use Rattle.std.proofs.Common.{rules};
-
     ghost number = { λ x. x };
 
     ghost from_number = { Prim.search rules };
@@ -35,8 +34,6 @@ impl Number for u8 {
 }
 
 impl Number for u32 {
-    ghost use Rattle.std.proofs.Common.{rules};
-
     ghost number = { λ x. x };
 
     ghost from_number = { Prim.search rules };
@@ -45,8 +42,6 @@ impl Number for u32 {
 }
 
 impl Number for u64 {
-    ghost use Rattle.std.proofs.Common.{rules};
-
     ghost number = { λ x. x };
 
     ghost from_number = { Prim.search rules };

@@ -4,7 +4,7 @@
 // `store[]`, is its length and its elements. One that comes out is its elements alone; its length goes in.
 #![tactic(auto)]
 
-ghost use Rattle.std.specs.Prelude.{◌≡◌, ℕ, List, ◌∷◌, OnOk};
+ghost use Rattle.std.specs.Prelude.{OnOk};
 ghost use Rattle.replayed.specs.Kind.{NamesKind};
 
 use crate::kind::Kind;
@@ -50,7 +50,7 @@ mod tests {
     use crate::replay;
     use std::test::Fail;
 
-    // The store of the least page grows to a chunk of 16,384 pages.
+    // A store that has to hold page 2 grows to 16,384 pages.
     #[test]
     fn a_recorded_call(rt: HostRuntime) -> Result<(), Fail> {
         let line = [1, 2, 0, 16384, 9, 9, 9, 9, 9, 9, 9];
