@@ -1,11 +1,12 @@
 // Reading a list, handing out and finishing, at the page size that comes first in each line.
-use crate::pages::{page_entries, page_size};
+use crate::pages::{NONE_PENDING, page_entries, page_size};
+use calls::saves;
 use lookup::lookup::lookup;
 use page::number::PageNumber;
 use page::size::PageSize;
+use page::store::Store;
 use record_line::fault::Fault;
 use record_line::fields::{BLANK_OUT, Fields};
-use sized::{sized_finish, sized_hand_out, sized_read_list};
 
 // size head store[], the lengths of both tables | status out pages entries
 pub fn read_list(fields: &mut Fields<'_>) -> Result<(), Fault> {
@@ -15,8 +16,8 @@ pub fn read_list(fields: &mut Fields<'_>) -> Result<(), Fault> {
     let mut pages = fields.blank()?;
     let mut entries = fields.blank()?;
     let mut out = BLANK_OUT;
-    let status = sized_read_list(
-        page_size.0 as u64,
+    let status = calls::lists::read_list(
+        page_size,
         &store,
         head,
         &mut pages,
@@ -24,7 +25,11 @@ pub fn read_list(fields: &mut Fields<'_>) -> Result<(), Fault> {
         &mut out,
     );
     if status == 0 && head != 0 {
-        let page = lookup(page_size, &[], &[], &store, PageNumber(head));
+        let page = lookup(
+            &Store::new(page_size, &store),
+            &NONE_PENDING,
+            PageNumber(head),
+        );
         let of_page = page_entries(fields.allocator(), page)?;
         Fault::unless(are_last(&of_page, &entries, out[1]))?;
     }
@@ -41,7 +46,7 @@ fn are_last(of_page: &[u32], entries: &[u32], listed: u64) -> bool {
 }
 
 // The page size and the open save.
-#[derive(Clone, Copy)]
+#[derive(Drop)]
 struct Opened {
     page_size: PageSize,
     bump: u32,
@@ -71,8 +76,8 @@ pub fn hand_out(fields: &mut Fields<'_>) -> Result<(), Fault> {
     let pages = fields.array()?;
     let entries = fields.array()?;
     let mut out = BLANK_OUT;
-    let status = sized_hand_out(
-        save.page_size.0 as u64,
+    let status = saves::hand_out(
+        save.page_size,
         save.bump,
         save.length,
         save.pages,
@@ -94,8 +99,8 @@ pub fn finish(fields: &mut Fields<'_>) -> Result<(), Fault> {
     let mut buffer = fields.blank()?;
     let mut numbers = fields.blank()?;
     let mut out = BLANK_OUT;
-    let status = sized_finish(
-        save.page_size.0 as u64,
+    let status = saves::finish(
+        save.page_size,
         save.bump,
         save.length,
         save.pages,

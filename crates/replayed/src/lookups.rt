@@ -1,9 +1,10 @@
 // Page lookup: among the pending pages of a save, and in the store.
 use crate::pages::page_size;
+use lookup::find::Pending;
 use page::number::PageNumber;
+use page::store::Store;
 use record_line::fault::Fault;
 use record_line::fields::{BLANK_OUT, Fields};
-use sized::sized_lookup;
 
 // page size, page, numbers[] pending[] store[] | status out
 pub fn lookup(fields: &mut Fields<'_>) -> Result<(), Fault> {
@@ -13,15 +14,15 @@ pub fn lookup(fields: &mut Fields<'_>) -> Result<(), Fault> {
     let pending = fields.array()?;
     let store = fields.array()?;
     let mut out = BLANK_OUT;
-    let status = sized_lookup(
-        page_size.0 as u64,
-        &numbers,
-        &pending,
-        &store,
-        number,
-        &mut out,
+    let status = calls::lookups::lookup(page_size, &numbers, &pending, &store, number, &mut out);
+    let page = lookup::lookup::lookup(
+        &Store::new(page_size, &store),
+        &Pending {
+            numbers: &numbers,
+            pages: &pending,
+        },
+        PageNumber(number),
     );
-    let page = lookup::lookup::lookup(page_size, &numbers, &pending, &store, PageNumber(number));
     Fault::unless(match status {
         0 if out[0] == 0 => is_part(page, &pending, out[1]),
         0 => is_part(page, &store, out[1]),

@@ -1,5 +1,6 @@
 // How a store grows, and how many pages a value takes.
-use mopsienna::totals::{mopsienna_grow, mopsienna_total};
+use calls::totals;
+use page::size::PageSize;
 use record_line::fault::Fault;
 use record_line::fields::{BLANK_OUT, Fields};
 
@@ -7,7 +8,7 @@ use record_line::fields::{BLANK_OUT, Fields};
 pub fn grow(fields: &mut Fields<'_>) -> Result<(), Fault> {
     let page = fields.number()?;
     let mut out = BLANK_OUT;
-    let status = mopsienna_grow(page, &mut out);
+    let status = totals::grow(page, &mut out);
     fields.expect_reply(status, &out)
 }
 
@@ -15,6 +16,6 @@ pub fn grow(fields: &mut Fields<'_>) -> Result<(), Fault> {
 pub fn total(fields: &mut Fields<'_>) -> Result<(), Fault> {
     let size = fields.number()?;
     let mut out = BLANK_OUT;
-    let status = mopsienna_total(size, &mut out);
+    let status = totals::total(PageSize::standard(), size, &mut out);
     fields.expect_reply(status, &out)
 }

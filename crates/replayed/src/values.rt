@@ -1,11 +1,12 @@
 // Values: writing their pages and cells, reading and deleting them.
-use crate::pages::{page_numbers, page_size};
+use crate::pages::{NONE_PENDING, page_numbers, page_size};
+use calls::values;
 use lookup::lookup::lookup;
-use mopsienna::values::{mopsienna_decode_cell, mopsienna_encode_cell};
 use page::number::PageNumber;
+use page::size::PageSize;
+use page::store::Store;
 use record_line::fault::Fault;
 use record_line::fields::{BLANK_OUT, FILLER, Fields};
-use sized::{sized_delete_value, sized_read_value, sized_write_value_page};
 
 // page size, index, value[] numbers[], the length of the page | status page
 pub fn write_page(fields: &mut Fields<'_>) -> Result<(), Fault> {
@@ -14,7 +15,7 @@ pub fn write_page(fields: &mut Fields<'_>) -> Result<(), Fault> {
     let value = fields.array()?;
     let numbers = fields.array()?;
     let mut page = fields.blank()?;
-    let status = sized_write_value_page(page_size.0 as u64, &value, &numbers, index, &mut page);
+    let status = values::write_value_page(page_size, &value, &numbers, index, &mut page);
     fields.expect(&[status])?;
     fields.expect(&page)
 }
@@ -26,7 +27,7 @@ pub fn encode_cell(fields: &mut Fields<'_>) -> Result<(), Fault> {
     let numbers = fields.array()?;
     let mut cell = fields.blank()?;
     let hash = hash.as_array().ok_or(Fault::Wrong)?;
-    let status = mopsienna_encode_cell(size, hash, &numbers, &mut cell);
+    let status = values::encode_cell(PageSize::standard(), size, hash, &numbers, &mut cell);
     fields.expect(&[status])?;
     fields.expect(&cell)
 }
@@ -36,7 +37,7 @@ pub fn decode_cell(fields: &mut Fields<'_>) -> Result<(), Fault> {
     let cell = fields.array()?;
     let mut hash = [FILLER; 32];
     let mut out = BLANK_OUT;
-    let status = mopsienna_decode_cell(&cell, &mut hash, &mut out);
+    let status = values::decode_cell(PageSize::standard(), &cell, &mut hash, &mut out);
     fields.expect_reply(status, &out)?;
     fields.expect(&hash)
 }
@@ -49,17 +50,14 @@ pub fn read_value(fields: &mut Fields<'_>) -> Result<(), Fault> {
     let mut numbers = fields.blank()?;
     let mut value = fields.blank()?;
     let mut out = BLANK_OUT;
-    let status = sized_read_value(
-        page_size.0 as u64,
-        &cell,
-        &store,
-        &mut numbers,
-        &mut value,
-        &mut out,
-    );
+    let status = values::read_value(page_size, &cell, &store, &mut numbers, &mut value, &mut out);
     if status == 0 {
         let first = *numbers.first().ok_or(Fault::Wrong)?;
-        let page = lookup(page_size, &[], &[], &store, PageNumber(first));
+        let page = lookup(
+            &Store::new(page_size, &store),
+            &NONE_PENDING,
+            PageNumber(first),
+        );
         let of_page = page_numbers(fields.allocator(), page)?;
         Fault::unless(are_behind_cell(&of_page, &numbers, &cell))?;
     }
@@ -84,7 +82,7 @@ pub fn delete_value(fields: &mut Fields<'_>) -> Result<(), Fault> {
     let store = fields.array()?;
     let mut numbers = fields.blank()?;
     let mut out = BLANK_OUT;
-    let status = sized_delete_value(page_size.0 as u64, &cell, &store, &mut numbers, &mut out);
+    let status = values::delete_value(page_size, &cell, &store, &mut numbers, &mut out);
     fields.expect_reply(status, &out)?;
     fields.expect(&numbers)
 }
