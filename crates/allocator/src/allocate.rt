@@ -1,11 +1,10 @@
 // Handing out a number.
 ghost use Rattle.std.specs.Prelude.{◌≡◌, ◌+◌, ◌^◌, ◌<◌, ◌≤◌};
-ghost use Rattle.refusal.specs.Effect.{effect};
 ghost use Rattle.page.specs.Growth.{max_bump};
 ghost use Rattle.allocator.specs.OpenSave.{counters, count_up};
-ghost use Rattle.allocator.specs.Answers.{save_of, counters_of, handed_outcome, handed_effect, counted_up, recorded_for};
+ghost use Rattle.allocator.specs.Answers.{handed_effect, counted_up, recorded_for};
 
-use crate::save::{LentSave, OpenSave, Save, Start, grown_for};
+use crate::save::{LentSave, OpenSave, grown_for};
 use page::growth::MAX_BUMP;
 use page::number::{Allocations, PageNumber};
 use page::size::PageSize;
@@ -18,7 +17,8 @@ pub struct Handed {
     pub open: OpenSave,
 }
 
-// Hands out the next number: the list's entries from the end, and then the numbers past the bump.
+// Hands out the next number: the list's entries from the end, and then the numbers past the bump. Document 01 asks for this form, which
+// gives back the open save by value, under the one that is lent by `&mut`.
 pub fn allocate(page_size: PageSize, lent: &LentSave) -> Result<Handed, Refusal>
     ensures { handed_effect (counters lent.now) result ≡ count_up page_size lent.now }
 {

@@ -104,7 +104,8 @@ impl<'a> LentList<'a> {
     }
 }
 
-// Whether the list of so many pages and entries is fragmented.
+// Whether the list of so many pages and entries is fragmented. This and `mends` take counts and not a `LentList`, since they hold of any
+// counts, and a `LentList` has the shape.
 #[tactic(auto, unfolding(free_list::specs::Shape::is_fragmented))]
 pub fn is_fragmented(c: usize, pages: usize, entries: usize) -> bool
     requires { c * (pages - 1) < 2 ^ 64 }

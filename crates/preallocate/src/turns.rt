@@ -144,7 +144,7 @@ impl<'a> LentList<'a> {
         }
     }
 
-    // Swaps the head, and then a page is taken.
+    // Swaps the head, and then a page is taken. Document 01 asks that this and `take_page` call one another, so it is no plain loop.
     #[cycle(swap_head_take_page)]
     fn swap_head(&self, out: &mut [u32], p: Plan) -> Plan
         requires { Due (capacity self.now.page_size) self.now.list p × (whole_of (capacity self.now.page_size) p ≡ true) }
