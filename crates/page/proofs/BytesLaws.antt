@@ -7,9 +7,10 @@ use native.Mathlib.Numerals.{add-one}
 use native.Mathlib.Omega.{arith}
 use lib.ListN.{length, get_or, take, drop, set, replicate, length-append, get_or-append, length-drop}
 use lib.Seq.{sets, drop-cons, take-suc, length-take-le, get_or-take, get_or-drop, get_or-append-add, take-add, drop-drop}
+use Rattle.std.proofs.Math.Seq.{take-length}
 use Rattle.std.specs.Int.{byte_at, bytes_low_first}
 use Rattle.page.specs.Bytes.{number_at, bytes_of, numbers_at, bytes_of_all}
-use Rattle.laws.proofs.SetsLaws.{part_copied, sets-append, sets-snoc, take-sets}
+use Rattle.laws.proofs.SetsLaws.{sets-append, sets-snoc, take-sets}
 
 -- ---- reading
 
@@ -197,11 +198,8 @@ bytes_more w l m r table from at i h e f =
     let long : length (bytes_of_all w first) ≡ w * i = rw (length-bytes_of_all, length-take-le i (drop from table) (omega (arith, length-drop from table))) in
     rw (more, bytes_of_all-append w first, append-nil, sets-append l at (bytes_of_all w first), long, ← e) f
 
--- the first 8 i bytes of a, with the next eight carried over as one number
-pub word_copied : (l m r a : List ℕ) (at i x : ℕ) → ((k : ℕ) → get_or a k 0 < 256) → 8 * i + 8 ≤ length a → m ≡ sets l at (take (8 * i) a)
-    → x ≡ number_at 8 a (8 * i) → r ≡ sets m (at + 8 * i) (bytes_of 8 x) → r ≡ sets l at (take (8 * (i + 1)) a)
-word_copied l m r a at i x bytes h e f g =
-    let all : 8 * i + 8 ≡ 8 * (i + 1) = omega arith in
-    let word : bytes_of 8 x ≡ take 8 (drop (8 * i) a) = rw f (bytes_of_number_at 8 a (8 * i) bytes h) in
-    let more = part_copied l m a 0 at (8 * i) 8 (omega arith) e in
-    rw (g, word) (simp zero-add at more ∙ rw all)
+-- the words of a turn are the bytes that they were read from
+pub turn_copied : (a words : List ℕ) (n k : ℕ) → ((i : ℕ) → get_or a i 0 < 256) → length a ≡ 8 * n → k ≡ n → words ≡ numbers_at 8 a 0 k → bytes_of_all 8 words ≡ a
+turn_copied a words n k bytes all same e =
+    let whole : take (8 * n) a ≡ a = rw (← all) (take-length a) in
+    rw (e, same) (bytes_of_all-numbers_at 8 a 0 n bytes (omega (arith, all)) ∙ whole)

@@ -1,24 +1,35 @@
 use Rattle.std.proofs.Common.{◌≡◌, ◌+◌, ◌*◌, ◌-◌, length}
 use Rattle.std.proofs.lemmas.List.Edits.{sets}
+use Rattle.std.proofs.Math.Seq.{take-length}
 use Rattle.page.proofs.copy.copy_steps.Goals as goal
 use mathlib.Core.Path.{◌∙◌, ap}
-use Rattle.std.proofs.Math.Seq.{take-length}
-use native.Mathlib.Omega.{arith}
 use native.Mathlib.Nat.{zero-add}
+use native.Mathlib.Omega.{arith}
 use Rattle.laws.proofs.SetsLaws.{part_copied}
-use Rattle.page.proofs.BytesLaws.{word_copied}
 
-pub loop-i-preserved : goal.loop-i-preserved
-loop-i-preserved c = record {
-  counted = omega arith;
-  copied = word_copied c.args.b.now c.loop-i.b _ c.args.a.now c.args.at c.loop-i.i _ (λ k. omega (arith, c.type_inv.a k)) (omega arith) c.loop-i.invariant.copied c.read_at.ensures c.write_at.ensures;
-}
+pub loop-steps-preserved : goal.loop-steps-preserved
+loop-steps-preserved c =
+    let x = c.args in
+    let k = c.copy_turn-steps.result in
+    let e = c.copy_turn-steps.ensures in
+    let done = 8 * c.loop-steps.steps in
+    let same : 8 * c.loop-steps.steps + 8 * c.min-n.result - 8 * c.loop-steps.steps ≡ 8 * k = omega (arith, e.0) in
+    let more : done + 8 * k ≡ 8 * (c.loop-steps.steps + k) = omega arith in
+    record {
+      within = omega (arith, e.0, c.min-n.ensures);
+      copied =
+          rw same at e.1
+          ∙ rw more at (simp zero-add at (part_copied x.b.now c.loop-steps.b x.a.now 0 x.at done (8 * k) (omega arith) c.loop-steps.invariant.copied));
+    }
 
 pub returns : goal.returns
 returns c =
     let x = c.args in
-    let done = 8 * c.loop-i.steps in
+    let done = 8 * c.loop-steps.steps in
     let left = length x.a.now - done in
-    let all : done + left ≡ length x.a.now = omega arith in
-    let first = rw (← c.loop-i.invariant.counted) at c.loop-i.invariant.copied in
-    (omega arith, c.copy.ensures ∙ simp zero-add at (part_copied x.b.now c.loop-i.b x.a.now 0 x.at done left (omega arith) first) ∙ rw all (ap (sets x.b.now x.at) (take-length x.a.now)))
+    let all : done + left ≡ length x.a.now = omega arith in (
+      omega arith,
+      c.copy.ensures
+          ∙ simp zero-add at (part_copied x.b.now c.loop-steps.b x.a.now 0 x.at done left (omega arith) c.loop-steps.invariant.copied)
+          ∙ rw all (ap (sets x.b.now x.at) (take-length x.a.now)),
+    )
