@@ -168,6 +168,7 @@ pub(crate) fn measure(store: &Store, reading: Reading, head: u32) -> Result<List
     let mut walk = Walk::new(store, head);
     let mut mark = None;
     let mut due = 2;
+    // How often the walk is taken is known only when it has ended, so there is no range to go over.
     loop {
         match walk.walk_down(store, reading, most, mark, NESTED)? {
             Descent::Ended(list) => {

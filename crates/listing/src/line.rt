@@ -1,6 +1,6 @@
 // A line of the input, read part by part: where it ends, and what is accumulated of it.
-ghost use Rattle.std.specs.Prelude.{◌≡◌, ◌<◌, ◌≤◌, ◌==◌, IfSome, length, position};
-ghost use Rattle.listing.specs.Lines.{newline, line_length, end_of_line};
+ghost use Rattle.std.specs.Prelude.{◌≡◌, ◌<◌, ◌==◌, IfSome, length, position};
+ghost use Rattle.listing.specs.Lines.{newline};
 ghost use Rattle.listing.specs.Accumulated.{no_bytes, digits_with_byte, with_byte, with_bytes, accumulated_empty, accumulated_size};
 
 // The place of the first newline, if there is one.
@@ -9,26 +9,6 @@ pub fn first_newline(bytes: &[u8]) -> Option<usize>
     ensures within { IfSome result (λ place. place < length bytes.now) }
 {
     bytes.iter().position(|byte| *byte == b'\n')
-}
-
-// The place of the first newline at or after `from`, or the length; `from` where that is past the end.
-#[tactic(auto, using(crate::proofs::LinesLaws::end_past), unfolding(crate::specs::Lines::end_of_line))]
-pub fn end_of_line(bytes: &[u8], from: usize) -> usize
-    ensures { result ≡ end_of_line bytes.now from }
-{
-    if bytes.len() < from {
-        return from;
-    }
-    from + line_length(&bytes[from..])
-}
-
-// The bytes before the first newline, or all.
-#[tactic(auto, using(crate::proofs::LinesLaws::line_length_found, crate::proofs::LinesLaws::line_length_within))]
-fn line_length(bytes: &[u8]) -> usize
-    ensures value { result ≡ line_length bytes.now }
-    ensures within { result ≤ length bytes.now }
-{
-    first_newline(bytes).unwrap_or(bytes.len())
 }
 
 // Up to nine digits: how many, and the number that they write.

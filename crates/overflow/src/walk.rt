@@ -97,7 +97,8 @@ fn visit_page<'a>(
     Ok(page)
 }
 
-// Puts n numbers from the bytes at `at` behind the `known` ones of the table, as far as it has room.
+// Puts n numbers from the bytes at `at` behind the `known` ones of the table, as far as it has room. Place and count are what `read_numbers`
+// goes by; bytes cut to the numbers would have to tell their count by a quotient.
 fn queue(b: &[u8], at: usize, n: usize, table: &mut [u32], known: usize)
     requires { at + 4 * n ≤ length b.now }
     ensures { table.new ≡ sets table.old known (take (length table.old - known) (numbers_at 4 b.now at n)) }

@@ -18,8 +18,9 @@ pub fn copy<T: Copy>(a: &[T], b: &mut [T], at: usize)
 // The most steps in a turn. A turn reads all its words, eight bytes each, before it writes the first, so that the compiler can join the moves.
 const TURN: usize = 32;
 
-// Copies as `copy` does: eight bytes a step, and singly what is then left.
-// Returns the count of steps, which is what the loop goes by.
+// Copies as `copy` does: eight bytes a step, and singly what is then left. Returns the count of steps, which is what the loop goes by.
+//
+// A `for` over single words takes up to half as long again on a page in the cache.
 pub fn copy_steps(a: &[u8], b: &mut [u8], at: usize) -> usize
     requires { at + length a.now ≤ length b.old }
     ensures { (result ≡ length a.now / 8) × (b.new ≡ sets b.old at a.now) }

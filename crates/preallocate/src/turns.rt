@@ -161,6 +161,7 @@ impl<'a> LentList<'a> {
         ensures { Planned (capacity self.now.page_size) self.now.list p out.old result out.new }
     {
         let mut q = self.take_one(out, p);
+        // How many turns it takes is known only when the room is enough, so there is no range to go over.
         while self.room(q) < q.pushed {
             if self.is_whole(q) {
                 return self.swap_head(out, q);

@@ -71,6 +71,7 @@ fn list_lines<W: Write>(printer: &mut Printer<'_, W>, line: Line, bytes: &[u8]) 
 {
     let mut line = line;
     let mut rest = bytes;
+    // Each turn takes a line off the front. The parts of `split` and `split_inclusive` do not tell whether the last one ended in a newline.
     while let Some(end) = first_newline(rest) {
         printer.print_line(line.with_bytes(&rest[..end]))?;
         line = Line::new();
