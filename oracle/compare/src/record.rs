@@ -11,10 +11,10 @@ const FILLER: u64 = 9;
 /// Lines with more characters are long ones.
 const MOST_CHARACTERS: usize = 400;
 
-/// Lines with more characters than this are left out: crates/line holds half as many numbers.
+/// Lines with more characters than this are left out, so that the file stays one that can be read.
 const MOST_LONG: usize = 65_536;
 
-/// The kinds of lines, as crates/recorded numbers them.
+/// The kinds of lines, as crates/replayed numbers them.
 #[derive(Clone, Copy)]
 pub enum Kind {
     Grow = 1,
