@@ -11,7 +11,7 @@ const FILLER: u64 = 9;
 /// Lines with more characters are long ones.
 const MOST_CHARACTERS: usize = 400;
 
-/// Lines with more characters than this are left out, so that the file stays one that can be read.
+/// Lines with more characters than this are left out.
 const MOST_LONG: usize = 65_536;
 
 /// The kinds of lines, as crates/replayed numbers them.
