@@ -51,9 +51,12 @@ module _ (s : ℕ) (store : List ℕ) (loose : Bool) (head : ℕ) where
 
   module _ (t : ListTables) where
     -- a refusal of the walk is that of the call
-    pub into-refused : (r : Refusal) → refusal r ≡ read_size s store loose head → effect (refusal r) t ≡ read_list_into s store loose head t
+    pub into-refused : {number : ℕ} {values : List ℕ} → refused number values ≡ read_size s store loose head → effect (refused number values) t ≡ read_list_into s store loose head t
     unfolding read_size read_list_into
-    into-refused r e = rw (with_answer_refused (λ l. size_of l) (list_from s store loose head) (sym e)) refl
+    into-refused e = rw (with_answer_refused (λ l. size_of l) (list_from s store loose head) (sym e)) refl
+
+    pub into-refusal : (r : Refusal) → refusal r ≡ read_size s store loose head → effect (refusal r) t ≡ read_list_into s store loose head t
+    into-refusal r e = into-refused e
 
     module _ {P L : ℕ} (l : Listed s store loose head P L) where
       fits_pages : P ≤ length t.pages → leb (length l.list.pages) (length t.pages) ≡ true

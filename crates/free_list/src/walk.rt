@@ -37,7 +37,8 @@ pub(crate) struct Walk {
     pub entries: usize,
 }
 
-// How far a walk has come: the list has ended, or the walk has nested as many calls as it may, and goes on from here.
+// How far a walk has come: the list has ended, or the walk has nested as many calls as it may, and goes on from here. Neither is a failure, so
+// this is no `Result`; the refusals are.
 #[derive(Clone, Copy)]
 pub(crate) enum Descent {
     Ended(ListCounts),

@@ -9,12 +9,12 @@ use refusal::Refusal;
 // The pending pages of a save: their numbers, and their bytes one page after another in the same order. Where a number stands there
 // twice, its first place counts.
 #[derive(Clone, Copy)]
-pub struct Pending<'a> {
-    pub numbers: &'a [u32],
+pub struct Pending<'n, 'a> {
+    pub numbers: &'n [u32],
     pub pages: &'a [u8],
 }
 
-impl<'a> Pending<'a> {
+impl<'n, 'a> Pending<'n, 'a> {
     // The first place of a number, if it is there.
     fn position(&self, number: u32) -> Option<usize>
         ensures { result ≡ position (λ n. n == number) self.now.numbers.now }

@@ -11,8 +11,7 @@ use Rattle.page.specs.PageSize.{IsPageSize}
 use Rattle.page.specs.Bytes.{bytes_of, numbers_at, bytes_of_all}
 use Rattle.page.proofs.PageSizeLaws.{page_least}
 use Rattle.laws.proofs.PlacesLaws.{part-mem}
-use Rattle.laws.proofs.SetsLaws.{sets-append, sets_whole, part-written}
-use borrow.Rule.Slice.PartMut.{put_mid}
+use Rattle.laws.proofs.SetsLaws.{sets-append, sets_whole}
 use Rattle.page.proofs.BytesLaws.{number_at_append-left, number_at_append_right, numbers_at_same, number_at_bytes_of, numbers_at-bytes_of_all, length_bytes_of, length-bytes_of_all}
 use Rattle.overflow.specs.Totals.{cell_numbers, body}
 use Rattle.overflow.specs.Layout.{numbers_before, numbers_on, bytes_before, bytes_on}
@@ -36,27 +35,23 @@ module _ (s : ℕ) (ns bs : List ℕ) where
     length_encoded =
         omega (arith, length-append (bytes_of 2 (length ns)) (bytes_of 2 (length bs) ++ parts), length-append (bytes_of 2 (length bs)) parts, length-append (bytes_of_all 4 ns) (bs ++ zeros), length-append bs zeros, length_bytes_of 2 (length ns), length_bytes_of 2 (length bs), length-bytes_of_all 4 ns, length-replicate {A = ℕ} (s - (4 + 4 * length ns + length bs)) 0)
 
-    -- a page that was written part by part: the last part is lent, and zeros come back
-    pub encoded : (l : List ℕ) {a b c d e : List ℕ} {from rest : ℕ} → length l ≡ s → length d ≡ s → from ≡ 4 + 4 * length ns + length bs → rest ≡ s - from
+    -- a page that was written part by part, the last of which is zeros
+    pub encoded : (l : List ℕ) {a b c d e : List ℕ} {from : ℕ} → length l ≡ s → from ≡ 4 + 4 * length ns + length bs
         → a ≡ sets l 0 (bytes_of 2 (length ns))
         → b ≡ sets a 2 (bytes_of 2 (length bs))
         → c ≡ sets b 4 (bytes_of_all 4 ns)
         → d ≡ sets c (4 + 4 * length ns) bs
-        → e ≡ replicate (length (take rest (drop from d))) 0
-        → put_mid from rest d e ≡ encode_value_page s ns bs
+        → e ≡ sets d from (replicate (s - from) 0)
+        → e ≡ encode_value_page s ns bs
     unfolding encode_value_page bytes_of zeros parts
-    encoded l {a} {b} {c} {d} {e} {from} {rest} whole long f g p q r t u =
+    encoded l whole f p q r t u =
         let A = bytes_of 2 (length ns) in
         let B = bytes_of 2 (length bs) in
         let C = bytes_of_all 4 ns in
         let m = sets (sets (sets l 0 A) 2 B) 4 C in
         let parts = sets-append l 0 A (B ++ (C ++ (bs ++ zeros))) ∙ sets-append (sets l 0 A) 2 B (C ++ (bs ++ zeros)) ∙ sets-append (sets (sets l 0 A) 2 B) 4 C (bs ++ zeros) in
         let last = ap (λ (k : ℕ). sets m (4 + k) (bs ++ zeros)) (length-bytes_of_all 4 ns) ∙ sets-append m (4 + 4 * length ns) bs zeros in
-        let room : length (take rest (drop from d)) ≡ rest = length-take-le rest (drop from d) (omega (arith, length-drop from d)) in
-        rw (u, room, g, f)
-        (part-written d (4 + 4 * length ns + length bs) (s - (4 + 4 * length ns + length bs)) zeros (length-replicate {A = ℕ} (s - (4 + 4 * length ns + length bs)) 0) (omega arith)
-        ∙ rw (t, r, q, p) (sym (parts ∙ last))
-        ∙ sets_whole l (encode_value_page s ns bs) (length_encoded ∙ sym whole))
+        rw (u, f, t, r, q, p) (sym (parts ∙ last)) ∙ sets_whole l (encode_value_page s ns bs) (length_encoded ∙ sym whole)
 
   module _ (page : IsPageSize s) (fits : 4 + 4 * length ns + length bs ≤ s) where
     -- what is encoded is decoded again

@@ -10,22 +10,20 @@ use page::little_endian::LittleEndian;
 use page::number::PageNumber;
 use std::marker::Model;
 
-#[derive(Drop)]
-pub struct ValuePageRef<'a> {
-    page: &'a [u8],
-}
+#[derive(Clone, Drop)]
+pub struct ValuePageRef<'a>(pub &'a [u8]);
 
 impl<'a> Model for ValuePageRef<'a> {
     ghost Value = { List ℕ };
 
-    ghost view = { λ p. p.page.now };
+    ghost view = { λ p. p.0.now };
 }
 
 impl<'a> ValuePageRef<'a> {
     pub fn new(page: &'a [u8]) -> ValuePageRef<'a>
         ensures { result ≡ page.entry.now }
     {
-        ValuePageRef { page }
+        ValuePageRef(page)
     }
 
     // The count of numbers.
@@ -33,10 +31,10 @@ impl<'a> ValuePageRef<'a> {
     pub fn number_count(&self) -> u16
         ensures { result ≡ numbers_within self.now }
     {
-        if self.page.len() < 4 {
+        if self.0.len() < 4 {
             return 0;
         }
-        u16::read_at(self.page, 0)
+        u16::read_at(self.0, 0)
     }
 
     // The count of value bytes.
@@ -44,10 +42,10 @@ impl<'a> ValuePageRef<'a> {
     pub fn byte_count(&self) -> u16
         ensures { result ≡ bytes_within self.now }
     {
-        if self.page.len() < 4 {
+        if self.0.len() < 4 {
             return 0;
         }
-        u16::read_at(self.page, 2)
+        u16::read_at(self.0, 2)
     }
 
     // Number i.
@@ -55,10 +53,10 @@ impl<'a> ValuePageRef<'a> {
     pub fn number(&self, i: usize) -> PageNumber
         ensures { result.0 ≡ number_within self.now i }
     {
-        if self.page.len() < 8 || (self.page.len() - 8) / 4 < i {
+        if self.0.len() < 8 || (self.0.len() - 8) / 4 < i {
             return PageNumber(0);
         }
-        PageNumber(u32::read_at(self.page, 4 + 4 * i))
+        PageNumber(u32::read_at(self.0, 4 + 4 * i))
     }
 
     // The value bytes.
@@ -66,9 +64,9 @@ impl<'a> ValuePageRef<'a> {
     pub fn bytes(&self) -> &'a [u8]
         ensures { result.now ≡ value_bytes self.now }
     {
-        let length = self.page.len();
+        let length = self.0.len();
         let start = (4 + 4 * self.number_count() as usize).min(length);
         let end = (start + self.byte_count() as usize).min(length);
-        &self.page[start..end]
+        &self.0[start..end]
     }
 }

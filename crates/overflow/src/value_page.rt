@@ -12,10 +12,11 @@ pub(crate) fn encode_value_page(numbers: &[u32], value: &[u8], page: &mut [u8])
     requires limit { length page.old ≤ 65536 }
     ensures { page.new ≡ encode_value_page (length page.old) numbers.now value.now }
 {
+    let end = page.len();
     let bytes_from = 4 + 4 * numbers.len();
     (numbers.len() as u16).write_at(page, 0);
     (value.len() as u16).write_at(page, 2);
     write_numbers(numbers, page, 4);
     copy_steps(value, page, bytes_from);
-    clear_steps(&mut page[bytes_from + value.len()..]);
+    clear_steps(page, bytes_from + value.len(), end);
 }

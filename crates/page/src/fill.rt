@@ -1,10 +1,24 @@
 // Bytes made zero.
-ghost use Rattle.std.specs.Prelude.{◌≡◌, ◌/◌, length, replicate};
+//
+// A leaf for sibling crates: it asks that the bytes lie within the slice.
+ghost use Rattle.std.specs.Prelude.{◌≡◌, ◌-◌, ◌/◌, ◌≤◌, length, replicate};
+ghost use Rattle.std.proofs.lemmas.List.Edits.{sets};
 
 use crate::little_endian::LittleEndian;
 
-// Makes all bytes zero: eight bytes a step, and singly what is then left. Returns the count of steps.
-pub fn clear_steps(b: &mut [u8]) -> usize
+// Makes the bytes from `from` up to `to` zero: eight bytes a step, and singly what is then left. Returns the count of steps.
+pub fn clear_steps(b: &mut [u8], from: usize, to: usize) -> usize
+    requires { to ≤ length b.old }
+    ensures { (result ≡ (to - from) / 8) × (b.new ≡ sets b.old from (replicate (to - from) 0)) }
+{
+    if to <= from {
+        return 0;
+    }
+    clear_part(&mut b[from..to])
+}
+
+// Makes all bytes zero. Each step is counted when its bytes are written.
+fn clear_part(b: &mut [u8]) -> usize
     ensures { (result ≡ length b.old / 8) × (b.new ≡ replicate (length b.old) 0) }
 {
     let mut steps = 0;

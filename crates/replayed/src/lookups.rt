@@ -23,6 +23,7 @@ pub fn lookup(fields: &mut Fields<'_>) -> Result<(), Fault> {
         },
         PageNumber(number),
     );
+    // Status and places are numbers here, as the recorded lines have those of the C interface.
     Fault::unless(match status {
         0 if out[0] == 0 => is_part(page, &pending, out[1]),
         0 => is_part(page, &store, out[1]),

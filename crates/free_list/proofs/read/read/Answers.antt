@@ -4,12 +4,12 @@ use Rattle.free_list.proofs.read.read.Goals.{then-pages-list-via-then-pages-list
 use Rattle.refusal.specs.Effect.{effect}
 use mathlib.Core.Path.{ap, ◌∙◌}
 use Rattle.std.proofs.lemmas.Result.{err_from_is_err_and}
-use Rattle.free_list.proofs.IntoLaws.{listed, into-refused, into-short-pages, into-short-entries, into-read}
+use Rattle.free_list.proofs.IntoLaws.{listed, into-refusal, into-short-pages, into-short-entries, into-read}
 
 pub returns-in_err-list : goal.returns-in_err-list
 returns-in_err-list c =
     let p = err_from_is_err_and c.from_residual.result c.from_residual.ensures.1 in
-    rw (p.1, p.2) (into-refused _ _ _ _ _ _ c.in_err-list.ensures.outcome)
+    rw (p.1, p.2) (into-refusal _ _ _ _ _ _ c.in_err-list.ensures.outcome)
 
 pub returns-then-pages-list : goal.returns-then-pages-list
 returns-then-pages-list c =

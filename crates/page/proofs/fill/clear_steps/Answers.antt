@@ -1,33 +1,17 @@
-use Rattle.std.proofs.Common.{◌≡◌, ℕ, ◌+◌, ◌*◌, ◌-◌, length, replicate, take, drop}
-use Rattle.std.proofs.lemmas.List.Edits.{sets}
+-- `clear_steps` meets its contract: the part is made zero, and it is as long as the places say.
+use Rattle.std.proofs.Common.{◌≡◌, ◌-◌, ◌/◌, ℕ, length, replicate, take, drop}
 use Rattle.page.proofs.fill.clear_steps.Goals as goal
-use mathlib.Core.Path.{◌∙◌, ap}
+use mathlib.Core.Path.{ap, ◌∙◌}
 use native.Mathlib.Omega.{arith}
 use lib.ListN.{length-drop, length-replicate}
 use lib.Seq.{length-take-le}
-use native.Mathlib.Nat.{zero-add}
-use Rattle.laws.proofs.SetsLaws.{part-written, sets_whole, zeros_joined}
-use Rattle.page.proofs.BytesLaws.{bytes_of_zero}
-
-pub loop-i-preserved : goal.loop-i-preserved
-loop-i-preserved c = record {
-  counted = omega arith;
-  cleared =
-      let more : 8 * c.loop-i.i + 8 ≡ 8 * (c.loop-i.i + 1) = omega arith in
-      c.write_at.ensures ∙ ap (sets c.loop-i.b (8 * c.loop-i.i)) (bytes_of_zero 8) ∙ rw (zero-add, more) at (zeros_joined c.args.b.now c.loop-i.b 0 (8 * c.loop-i.i) 8 c.loop-i.invariant.cleared);
-}
+use Rattle.laws.proofs.SetsLaws.{part-written}
 
 pub returns : goal.returns
 returns c =
-    let n = length c.args.b.now in
-    let done = 8 * c.loop-i.steps in
-    let left = length c.loop-i.b - done in
-    let long : length (take left (drop done c.loop-i.b)) ≡ left = length-take-le left (drop done c.loop-i.b) (omega (arith, length-drop done c.loop-i.b)) in
-    let zeros : c.fill.new.self ≡ replicate left 0 = c.fill.ensures.after (λ y e. e) ∙ ap (λ (k : ℕ). replicate {A = ℕ} k 0) long in
-    let all : done + left ≡ n = omega arith in
-    let first = rw (← c.loop-i.invariant.counted) at c.loop-i.invariant.cleared in (
-      omega arith,
-      rw zeros (part-written c.loop-i.b done left (replicate left 0) (length-replicate {A = ℕ} left 0) (omega arith))
-          ∙ rw (zero-add, all) at (zeros_joined c.args.b.now c.loop-i.b 0 done left first)
-          ∙ sets_whole c.args.b.now (replicate n 0) (length-replicate {A = ℕ} n 0),
+    let x = c.args in
+    let n = x.to - x.from in
+    let long : length (take n (drop x.from x.b.now)) ≡ n = length-take-le n (drop x.from x.b.now) (omega (arith, length-drop x.from x.b.now)) in (
+      c.clear_part.ensures.0 ∙ ap (λ (k : ℕ). k / 8) long,
+      rw (c.clear_part.ensures.1, long) (part-written x.b.now x.from n (replicate n 0) (length-replicate {A = ℕ} n 0) (omega arith)),
     )

@@ -1,7 +1,7 @@
--- `clear_steps`: a step is counted for each eight bytes that are made zero.
+-- `clear_part`: a step is counted for each eight bytes that are made zero.
 use Rattle.std.proofs.Common.{◌≡◌, ◌*◌, replicate}
 use Rattle.std.proofs.lemmas.List.Edits.{sets}
-use Rattle.page.proofs.fill.clear_steps.Given as goal
+use Rattle.page.proofs.fill.clear_part.Given as goal
 
 abbrev pub invariant-loop-i : goal.invariant-loop-i
 invariant-loop-i l = record {
