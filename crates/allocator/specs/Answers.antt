@@ -24,6 +24,11 @@ save_of start v pages entries =
       handed = v.allocations.0;
     }
 
+-- a save, and how many bytes the pages of its store have
+pub record SizedSave : Type 0 where
+  pub page_size : ℕ
+  pub save : Save
+
 abbrev pub counters_of : OpenSave → Counters
 counters_of v = record { handed = v.allocations.0; recorded = v.length }
 

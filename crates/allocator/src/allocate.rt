@@ -7,7 +7,6 @@ ghost use Rattle.allocator.specs.Answers.{handed_effect, counted_up, recorded_fo
 use crate::save::{LentSave, OpenSave, grown_for};
 use page::growth::MAX_BUMP;
 use page::number::{Allocations, PageNumber};
-use page::size::PageSize;
 use refusal::Refusal;
 
 // The number handed out, and the open save after it.
@@ -19,10 +18,10 @@ pub struct Handed {
 
 // Hands out the next number: the list's entries from the end, and then the numbers past the bump. Document 01 asks for this form, which
 // gives back the open save by value, under the one that is lent by `&mut`.
-pub fn allocate(page_size: PageSize, lent: &LentSave) -> Result<Handed, Refusal>
-    ensures { handed_effect (counters lent.now) result ≡ count_up page_size lent.now }
+pub fn allocate(lent: &LentSave) -> Result<Handed, Refusal>
+    ensures { handed_effect (counters lent.now.save) result ≡ count_up lent.now.page_size lent.now.save }
 {
-    if !lent.state_fits(page_size) {
+    if !lent.state_fits() {
         return Err(Refusal::State);
     }
     let start = lent.save.start;

@@ -22,14 +22,12 @@ impl OpenSave {
         ensures { effect (handed_outcome result) (counters_of self.new) ≡ count_up page_size (save_of start self.old pages.now entries.now) }
     {
         let save = Save { start, open: *self };
-        let handed = allocate(
+        let handed = allocate(&LentSave {
             page_size,
-            &LentSave {
-                save,
-                pages,
-                entries,
-            },
-        )?;
+            save,
+            pages,
+            entries,
+        })?;
         *self = handed.open;
         Ok(handed.number)
     }

@@ -36,21 +36,21 @@ pub struct Save {
     pub open: OpenSave,
 }
 
-// A save beside the tables of its list, which are lent.
+// A save of a store whose pages have one size, beside the tables of its list, which are lent.
 #[derive(Drop)]
 pub struct LentSave<'a> {
+    pub page_size: PageSize,
     pub save: Save,
     pub pages: &'a [u32],
     pub entries: &'a [u32],
 }
 
 impl<'a> Model for LentSave<'a> {
-    ghost use Rattle.allocator.specs.OpenSave.{Save as OpenedSave};
-    ghost use Rattle.allocator.specs.Answers.{save_of};
+    ghost use Rattle.allocator.specs.Answers.{SizedSave, save_of};
 
-    ghost Value = { OpenedSave };
+    ghost Value = { SizedSave };
 
-    ghost view = { λ s. save_of s.save.start s.save.«open» s.pages.now s.entries.now };
+    ghost view = { λ s. record { page_size = s.page_size; save = save_of s.save.start s.save.«open» s.pages.now s.entries.now } };
 }
 
 // Whether a list can have so many pages and entries, with c entries to a page.
@@ -71,12 +71,12 @@ pub(crate) fn shape_fits(c: usize, pages: usize, entries: usize) -> bool
 impl<'a> LentSave<'a> {
     // Whether it can go on, whatever was counted.
     #[tactic(auto, using(crate::proofs::SaveLaws::tested), unfolding(crate::specs::OpenSave::state_fits))]
-    pub fn state_fits(&self, page_size: PageSize) -> bool
-        ensures { result ≡ state_fits page_size self.now }
+    pub fn state_fits(&self) -> bool
+        ensures { result ≡ state_fits self.now.page_size self.now.save }
     {
         let start = self.save.start;
         (1 <= start.bump && start.bump <= MAX_BUMP)
-            && (shape_fits(max_pns_per_page(page_size), start.pages, start.entries)
+            && (shape_fits(max_pns_per_page(self.page_size), start.pages, start.entries)
                 && (start.pages <= self.pages.len() && start.entries <= self.entries.len()))
     }
 }
@@ -87,8 +87,5 @@ pub fn grown_for(page: u32) -> u32
     requires { page ≤ max_bump }
     ensures { result ≡ grown page }
 {
-    match grow(PageNumber(page)) {
-        Ok(grown) => grown.0,
-        Err(_) => page,
-    }
+    grow(PageNumber(page)).map_or(page, |grown| grown.0)
 }

@@ -6,6 +6,7 @@ use crate::told::{Told, report};
 use allocator::allocate::{Handed, allocate};
 use allocator::save::{LentSave, OpenSave, Save, Start};
 use finisher::finish::StoreMeta;
+use free_list::tables::Tables;
 use page::number::Allocations;
 use page::size::PageSize;
 
@@ -13,9 +14,9 @@ impl Told for Handed {
     ghost values = { handed_told };
 
     fn tell(self, out: &mut [u64; 8]) {
-        out[0] = self.number.0 as u64;
+        out[0] = u64::from(self.number.0);
         out[1] = self.open.allocations.0 as u64;
-        out[2] = self.open.length as u64;
+        out[2] = u64::from(self.open.length);
     }
 }
 
@@ -23,9 +24,9 @@ impl Told for StoreMeta {
     ghost values = { λ m. m.head.0 ∷ m.bump ∷ m.length ∷ m.pages ∷ m.entries ∷ m.written ∷ [] };
 
     fn tell(self, out: &mut [u64; 8]) {
-        out[0] = self.head.0 as u64;
-        out[1] = self.bump as u64;
-        out[2] = self.length as u64;
+        out[0] = u64::from(self.head.0);
+        out[1] = u64::from(self.bump);
+        out[2] = u64::from(self.length);
         out[3] = self.pages as u64;
         out[4] = self.entries as u64;
         out[5] = self.written as u64;
@@ -65,11 +66,12 @@ pub fn hand_out(
 {
     let save = save_of(bump, length, p, l, count);
     let lent = LentSave {
+        page_size,
         save,
         pages,
         entries,
     };
-    report(allocate(page_size, &lent), out)
+    report(allocate(&lent), out)
 }
 
 // out: head, bump, recorded length, P, L, pages written. Refusal 8: the place of the freed number.
@@ -90,8 +92,9 @@ pub fn finish(
     ensures { Finishes page_size bump length p l count pages entries freed buffer numbers out result }
 {
     let save = save_of(bump, length, p, l, count);
+    let tables = Tables { pages, entries };
     report(
-        finisher::finish::finish(page_size, save, pages, entries, freed, buffer, numbers),
+        finisher::finish::finish(page_size, save, tables, freed, buffer, numbers),
         out,
     )
 }

@@ -11,7 +11,7 @@ impl Told for PageNumber {
     ghost values = { λ page. page.0 ∷ [] };
 
     fn tell(self, out: &mut [u64; 8]) {
-        out[0] = self.0 as u64;
+        out[0] = u64::from(self.0);
     }
 }
 

@@ -3,22 +3,12 @@ ghost use Rattle.std.specs.Prelude.{[], ◌∷◌};
 ghost use Rattle.calls.specs.Values.{WritesPage, EncodesCell, DecodesCell, ReadsValue, DeletesValue};
 
 use crate::told::{Told, report, status};
-use overflow::cell::CellCounts;
+use overflow::cell::ValueCounts;
 use overflow::chunk::chunk;
 use overflow::delete::delete;
 use overflow::read::read;
-use overflow::walk::ValueCounts;
 use page::size::PageSize;
 use page::store::Store;
-
-impl Told for CellCounts {
-    ghost values = { λ c. c.size ∷ c.numbers ∷ [] };
-
-    fn tell(self, out: &mut [u64; 8]) {
-        out[0] = self.size as u64;
-        out[1] = self.numbers as u64;
-    }
-}
 
 impl Told for ValueCounts {
     ghost values = { λ v. v.size ∷ v.numbers ∷ [] };

@@ -10,15 +10,17 @@ use lib.Seq.{sets}
 use Rattle.page.specs.PageSize.{IsPageSize, capacity}
 use Rattle.page.specs.Pages.{Write}
 use Rattle.laws.proofs.SetsLaws.{sets-append, part-written}
-use Rattle.free_list.specs.ListPages.{encode_list_page, page_within}
-use Rattle.free_list.specs.Shape.{FreeList}
+use Rattle.free_list.specs.ListPages.{page_within}
+use Rattle.free_list.specs.Shape.{FreeList, entries_on, previous}
 use Rattle.free_list.proofs.ListPagesLaws.{page_within_lem}
 use Rattle.finisher.specs.Finish.{encoded_page, encoded_pages, bytes_of_pages}
 
--- a page as encoded from its number below and its entries
-pub page_encoded : (s prev : ℕ) (entries b : List ℕ) → IsPageSize s → length b ≡ s → length entries ≤ capacity s
-    → page_within prev entries b ≡ encode_list_page s prev entries
-page_encoded s prev entries b size long few = page_within_lem size prev entries b long few
+-- page j, as encoded from the number of the page under it and from its entries
+pub page_encoded : {s : ℕ} (l : FreeList) (j : ℕ) {prev : ℕ} {entries : List ℕ} (b : List ℕ) {x : List ℕ} → IsPageSize s → length b ≡ s → length entries ≤ capacity s
+    → prev ≡ previous l.pages j → entries ≡ entries_on (capacity s) l j → x ≡ page_within prev entries b → x ≡ (encoded_page s l j).bytes
+unfolding encoded_page
+page_encoded l j {prev} {entries} b size long few under they e =
+    rw (← under, ← they) (e ∙ page_within_lem size prev entries b long few)
 
 -- ---- several pages
 

@@ -1,5 +1,5 @@
 -- What the code puts into the tables, and the first bad number. By the laws of `sets`. Assumes nothing.
-use Prim.Native.Nat.{ℕ, suc, ◌+◌, ◌-◌, ◌<◌, ◌≤◌}
+use Prim.Native.Nat.{ℕ, suc, ◌+◌, ◌<◌, ◌≤◌}
 use native.Mathlib.Nat.{not-suc-le-zero}
 use native.Mathlib.Numerals.{add-one}
 use native.Mathlib.Omega.{arith}
@@ -8,16 +8,16 @@ use mathlib.Core.Bool.{Bool, true, false, ◌&&◌, ◌||◌, cond}
 use mathlib.Core.List.{List, [], ◌∷◌, reverse}
 use lib.Dec.{leb, ltb, eqb}
 use lib.ListN.{length, get_or, take, drop, set, length-reverse}
-use lib.Seq.{sets, take-suc, length-take-le, length-sets}
+use borrow.Rule.Slice.PartMut.{put_mid}
+use lib.Seq.{sets, length-sets}
 use Rattle.std.specs.Prelude.{Option, Some, None}
 use Rattle.std.specs.List.{position_or_len, swap}
 use borrow.Author.Tests.{ltb-true, ltb-false}
 use Rattle.laws.proofs.Tests.{cond_cases}
 use Rattle.std.proofs.lemmas.List.Edits.{swap_is}
 use Rattle.std.proofs.lemmas.Bool.Decides.{nat_tests}
-use Rattle.std.proofs.lemmas.List.{get_or-reverse}
 use Rattle.std.proofs.lemmas.List.Recursion.{is_position_or_len}
-use Rattle.laws.proofs.SetsLaws.{sets-append, sets-snoc, sets_swapped}
+use Rattle.laws.proofs.SetsLaws.{sets-append, sets_over, part-taken, part-written, sets_swapped}
 use Rattle.finisher.specs.Finish.{first_bad}
 use Rattle.finisher.specs.Steps.{swap_if, bad_place, push_list}
 
@@ -59,16 +59,15 @@ module _ (limit : ℕ) (ns : List ℕ) where
 
 -- ---- the pages, from the last to the first
 
-pub push_more : (l m pages : List ℕ) (at i : ℕ) → i < length pages → m ≡ sets l at (take i (reverse pages))
-    → set m (at + i) (get_or pages (length pages - 1 - i) 0) ≡ sets l at (take (i + 1) (reverse pages))
-push_more l m pages at i inside e =
-    rw (
-      ← get_or-reverse pages i 0 inside,
-      add-one i,
-      take-suc (reverse pages) i 0 (rw length-reverse inside),
-      sets-snoc l at (take i (reverse pages)) (get_or (reverse pages) i 0) i (length-take-le i (reverse pages) (rw length-reverse (omega arith))),
-      ← e,
-    )
+-- a list that was written to a part, turned round there
+pub written_reversed : (l m vs : List ℕ) (at n : ℕ) {r : List ℕ} → at + length vs ≤ length l → n ≡ length vs → m ≡ sets l at vs
+    → r ≡ reverse (take n (drop at m)) → put_mid at n m r ≡ sets l at (reverse vs)
+written_reversed l m vs at n {r} fits e f g =
+    let whole : take n (drop at m) ≡ vs = rw (e, f) (part-taken l at vs fits) in
+    let turned : r ≡ reverse vs = g ∙ ap reverse whole in
+    let long : length r ≡ n = rw (turned, e, length-reverse) in
+    let room : at + n ≤ length m = rw (f, e) (simp length-sets fits) in
+    part-written m at n r long room ∙ rw (turned, f, sets_over l at vs (reverse vs) (rw length-reverse (omega arith)))
 
 -- ---- the push list
 

@@ -165,4 +165,4 @@ new_tables s v freed =
 
 -- all that was lent, with what the finish of a save makes
 abbrev pub carried : ℕ → SaveStruct → List ℕ → FinishLent → FinishLent
-carried s v freed l = stored l (finished s (save_with v l.tables.pages l.tables.entries) freed)
+carried s v freed l = stored l (finished s (save_with v l.tables) freed)

@@ -1,14 +1,16 @@
 // Finishing a save: the new list in the tables, its pages in the buffer, their numbers in the number list.
 ghost use Rattle.std.specs.Prelude.{◌≡◌, cond, ◌-◌, ◌≤◌, ltb, length, get_or};
-ghost use Rattle.refusal.specs.Effect.{before, after, effect};
+ghost use Rattle.refusal.specs.Effect.{before, effect};
+ghost use Rattle.free_list.specs.Reading.{tables_before};
 ghost use Rattle.page.specs.Growth.{max_bump, grown};
-ghost use Rattle.finisher.specs.Finish.{finish_into, finish_lent, finish_room};
-ghost use Rattle.finisher.specs.Answers.{save_with, meta_answer, finish_outcome};
+ghost use Rattle.finisher.specs.Finish.{finish_into, finish_room};
+ghost use Rattle.finisher.specs.Answers.{save_with, lent_after, meta_answer, finish_outcome};
 ghost use Rattle.finisher.specs.Steps.{answer_of};
 
 use crate::carry::carry_out;
 use crate::judge::{Room, Work, judge};
 use allocator::save::{LentSave, Save, grown_for};
+use free_list::tables::Tables;
 use page::number::PageNumber;
 use page::size::PageSize;
 use refusal::Refusal;
@@ -30,27 +32,30 @@ pub struct StoreMeta {
 pub fn finish(
     page_size: PageSize,
     save: Save,
-    pages: &mut [u32],
-    entries: &mut [u32],
+    tables: Tables,
     freed: &[u32],
     buffer: &mut [u8],
     numbers: &mut [u32],
 ) -> Result<StoreMeta, Refusal>
-    ensures { effect (finish_outcome result) (finish_lent after pages entries buffer numbers) ≡ finish_into page_size (save_with save pages.old entries.old) freed.now (finish_room before buffer numbers) }
+    ensures { effect (finish_outcome result) (lent_after tables buffer numbers) ≡ finish_into page_size (save_with save (tables_before tables)) freed.now (finish_room before buffer numbers) }
 {
+    let Tables { pages, entries } = tables;
     let room = Room {
         bytes: buffer.len(),
         numbers: numbers.len(),
     };
     let lent = LentSave {
+        page_size,
         save,
         pages: &*pages,
         entries: &*entries,
     };
-    let work = judge(page_size, &lent, freed, room)?;
-    carry_out(
-        page_size, save, work, freed, pages, entries, buffer, numbers,
-    );
+    let work = judge(&lent, freed, room)?;
+    let written = Tables {
+        pages: &mut *pages,
+        entries,
+    };
+    carry_out(page_size, save, work, freed, written, buffer, numbers);
     Ok(store_after(save.open.length, work, pages))
 }
 
@@ -74,10 +79,7 @@ fn store_after(recorded: u32, work: Work, pages: &[u32]) -> StoreMeta
 fn head_of(pages: &[u32]) -> PageNumber
     ensures { result.0 ≡ get_or pages.now (length pages.now - 1) 0 }
 {
-    match pages.last() {
-        Some(head) => PageNumber(*head),
-        None => PageNumber(0),
-    }
+    PageNumber(pages.last().copied().unwrap_or(0))
 }
 
 // The recorded length, grown where it does not cover the bump.

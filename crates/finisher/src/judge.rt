@@ -7,7 +7,6 @@ ghost use Rattle.finisher.specs.Steps.{work_of, same_work, judged_outcome, judge
 use crate::tables::first_bad;
 use allocator::save::{LentSave, Start};
 use page::growth::MAX_BUMP;
-use page::size::PageSize;
 use preallocate::list::LentList;
 use preallocate::turns::Plan;
 use refusal::Refusal;
@@ -34,17 +33,12 @@ pub(crate) struct Room {
 }
 
 // Judges a finish for which so much room is lent, in the order of the refusals.
-pub(crate) fn judge(
-    page_size: PageSize,
-    lent: &LentSave,
-    freed: &[u32],
-    room: Room,
-) -> Result<Work, Refusal>
-    ensures judged { judged_outcome result ≡ judged page_size lent.now freed.now (room_of room) }
-    ensures size { IsPageSize page_size }
+pub(crate) fn judge(lent: &LentSave, freed: &[u32], room: Room) -> Result<Work, Refusal>
+    ensures judged { judged_outcome result ≡ judged lent.now.page_size lent.now.save freed.now (room_of room) }
+    ensures size { IsPageSize lent.now.page_size }
 {
-    let size = page_size.bytes();
-    if !lent.state_fits(page_size) {
+    let size = lent.page_size.bytes();
+    if !lent.state_fits() {
         return Err(Refusal::State);
     }
     let start = lent.save.start;
@@ -55,7 +49,7 @@ pub(crate) fn judge(
         return Err(Refusal::Limit);
     }
     let bump = start.bump as usize + past;
-    let work = measure(page_size, lent, popped, bump, freed);
+    let work = measure(lent, popped, bump, freed);
     if work.plan.bump > MAX_BUMP as usize {
         return Err(Refusal::Limit);
     }
@@ -72,26 +66,30 @@ pub(crate) fn judge(
 }
 
 // The list of a save that stands.
-pub(crate) fn list_of<'a>(page_size: PageSize, lent: &LentSave<'a>) -> LentList<'a>
-    requires { state_fits page_size lent.now ≡ true }
-    ensures list { result ≡ record { page_size = page_size; list = list_of lent.now } }
-    ensures fits { (i : ℕ) → get_or (list_of lent.now).entries i 0 < 2 ^ 32 }
+pub(crate) fn list_of<'a>(lent: &LentSave<'a>) -> LentList<'a>
+    requires { state_fits lent.now.page_size lent.now.save ≡ true }
+    ensures list { result ≡ record { page_size = lent.now.page_size; list = list_of lent.now.save } }
+    ensures fits { (i : ℕ) → get_or (list_of lent.now.save).entries i 0 < 2 ^ 32 }
 {
     let start = lent.save.start;
     let pages = lent.pages;
     let entries = lent.entries;
-    LentList::new(page_size, &pages[..start.pages], &entries[..start.entries])
+    LentList::new(
+        lent.page_size,
+        &pages[..start.pages],
+        &entries[..start.entries],
+    )
 }
 
-// The work of a save with so many pops and this bump.
-fn measure(page_size: PageSize, lent: &LentSave, popped: usize, bump: usize, freed: &[u32]) -> Work
-    requires { Begun page_size lent.now popped bump }
-    ensures { result ≡ work_of page_size lent.now freed.now }
+// The work of a save with so many pops and this bump. Pops are entries of the list; their count is no place in `freed`.
+fn measure(lent: &LentSave, popped: usize, bump: usize, freed: &[u32]) -> Work
+    requires { Begun lent.now.page_size lent.now.save popped bump }
+    ensures { result ≡ work_of lent.now.page_size lent.now.save freed.now }
 {
     if is_unchanged(popped, freed) {
         return nothing_to_do(lent.save.start, bump);
     }
-    let plan = list_of(page_size, lent).plan(popped, freed, bump, &mut []);
+    let plan = list_of(lent).plan(popped, freed, bump, &mut []);
     let pages = plan.pages + plan.fresh;
     Work {
         popped,
@@ -103,7 +101,7 @@ fn measure(page_size: PageSize, lent: &LentSave, popped: usize, bump: usize, fre
     }
 }
 
-// Whether nothing was popped and nothing freed.
+// Whether nothing was popped and nothing freed: two counts.
 fn is_unchanged(popped: usize, freed: &[u32]) -> bool
     ensures { result ≡ eqb popped 0 && eqb (length freed.now) 0 }
 {
@@ -138,10 +136,10 @@ fn tables_fit(work: Work, pages: usize, entries: usize) -> bool
     work.pages <= pages && work.entries <= entries
 }
 
-// Whether n pages and their numbers have room.
-fn pages_fit(page_size: usize, n: usize, room: Room) -> bool
-    requires { 1 ≤ page_size }
-    ensures { result ≡ leb (page_size * n) room.bytes && leb n room.numbers }
+// Whether n pages of so many bytes have room, and their numbers.
+fn pages_fit(size: usize, n: usize, room: Room) -> bool
+    requires { 1 ≤ size }
+    ensures { result ≡ leb (size * n) room.bytes && leb n room.numbers }
 {
-    n <= room.bytes / page_size && n <= room.numbers
+    n <= room.bytes / size && n <= room.numbers
 }

@@ -1,4 +1,6 @@
 // The new list is put into the tables: the push list behind the entries kept, the new numbers behind the pages kept.
+//
+// A place goes beside the table, as `copy` takes it: so the clauses speak of the whole table.
 ghost use Rattle.std.specs.Prelude.{◌≡◌, reverse, ◌+◌, ◌≤◌, length};
 ghost use Rattle.std.proofs.lemmas.List.Edits.{sets};
 ghost use Rattle.finisher.specs.Steps.{bad_place, push_list, Pushable};
@@ -19,12 +21,12 @@ fn push_pages(pages: &[u32], table: &mut [u32], at: usize)
     requires { at + length pages.now ≤ length table.old }
     ensures { table.new ≡ sets table.old at (reverse pages.now) }
 {
-    for i in 0..pages.len() {
-        table[at + i] = pages[pages.len() - 1 - i];
-    }
+    copy(pages, table, at);
+    table[at..at + pages.len()].reverse();
 }
 
-// Writes the push list to the table, from place `at` on: the freed numbers, then the pages released, from the top one down.
+// Writes the push list to the table, from place `at` on: the freed numbers, then the pages released, from the top one down; in a list
+// that is mended the first two of these change places. `mended` tells the one from the other and has no value beside it.
 pub(crate) fn write_pushes(
     freed: &[u32],
     released: &[u32],

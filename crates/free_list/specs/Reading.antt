@@ -99,6 +99,10 @@ tables_before t = record { pages = t.entry.pages.now; entries = t.entry.entries.
 abbrev pub tables_after : LentTables → ListTables
 tables_after t = record { pages = t.exit.0.now; entries = t.exit.1.0.now }
 
+-- the same as a `requires` sees them
+abbrev pub tables_now : Tables → ListTables
+tables_now t = record { pages = t.pages.now; entries = t.entries.now }
+
 abbrev pub is_loose : Reading → Bool
 is_loose Strict = false
 is_loose Loose = true

@@ -4,10 +4,11 @@ ghost use Rattle.page.specs.PageSize.{capacity};
 
 use page::size::PageSize;
 
-// How many entries a list page of this size holds at most.
+// How many entries a list page of this size holds at most: two or more.
 #[tactic(auto, using(page::proofs::PageSizeLaws::page_least))]
 pub fn max_pns_per_page(page_size: PageSize) -> usize
-    ensures { result ≡ capacity page_size }
+    ensures entries { result ≡ capacity page_size }
+    ensures two { 2 ≤ result }
 {
     entry_places(page_size.bytes())
 }

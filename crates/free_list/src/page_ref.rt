@@ -2,7 +2,7 @@
 ghost use Rattle.std.specs.Prelude.{◌≡◌, ℕ, List};
 ghost use Rattle.free_list.specs.ListPages.{prev_within, count_within, entry_within};
 
-use page::little_endian::LittleEndian;
+use page::little_endian::{LittleEndian, nth_number};
 use page::number::PageNumber;
 use std::marker::Model;
 
@@ -49,13 +49,10 @@ impl<'a> FreeListPageRef<'a> {
     }
 
     // Entry i.
-    #[tactic(auto, unfolding(crate::specs::ListPages::entry_within))]
+    #[tactic(auto, unfolding(crate::specs::ListPages::entry_within, page::specs::Bytes::nth_within))]
     pub fn item(&self, i: usize) -> PageNumber
         ensures { result.0 ≡ entry_within self.now i }
     {
-        if self.0.len() < 10 || (self.0.len() - 10) / 4 < i {
-            return PageNumber(0);
-        }
-        PageNumber(u32::read_at(self.0, 6 + 4 * i))
+        PageNumber(nth_number(self.0, 6, i))
     }
 }

@@ -6,7 +6,7 @@ ghost use Rattle.page.specs.Pages.{page_count};
 ghost use Rattle.free_list.specs.Reading.{is_loose, count_fits, all_entries_fit, read_outcome};
 ghost use Rattle.free_list.specs.Steps.{read_size, walk_from, MayVisit, Visits, MayWalk, Walks};
 
-use crate::list_page::entry_places;
+use crate::list_page::max_pns_per_page;
 use crate::page_ref::FreeListPageRef;
 use page::little_endian::LittleEndian;
 use page::store::Store;
@@ -19,7 +19,7 @@ pub struct ListCounts {
     pub entries: usize,
 }
 
-// Which counts the pages of a list may have.
+// Which counts the pages of a list may have. Contracts name the two, so this is an enum and no closure.
 #[derive(Clone, Copy, PartialEq, Eq, Debug)]
 pub enum Reading {
     // On the head 1 to the most, on each page below it the most; but under a head of one entry there may be one less.
@@ -143,8 +143,8 @@ fn unfit(entry: u32, count: u32) -> u32
     u32::from(entry == 0 || count <= entry)
 }
 
-// Whether the first n entries of a list page are numbers of pages of a store of `count` pages, and none is 0. All are counted
-// that are not: without a way out in its middle the loop becomes vector code. With `all` in its place it takes two and a half times
+// Whether the first n entries of a list page are numbers of pages of a store of `count` pages, and none is 0. The page comes whole, as its
+// entries are read at their places. All are counted that are not: without a way out in its middle the loop becomes vector code. With `all` in its place it takes two and a half times
 // as long, with `filter` and `count` almost four times; `map` and `sum` are as fast, but the check does not bound the sum.
 #[tactic(auto, using(crate::proofs::ReadingLaws::entries_more), unfolding(crate::specs::Reading::all_entries_fit, page::specs::Bytes::numbers_at))]
 fn entries_fit(page: &[u8], n: usize, count: u32) -> bool
@@ -165,7 +165,7 @@ pub(crate) fn measure(store: &Store, reading: Reading, head: u32) -> Result<List
     ensures sized { IsPageSize store.now.page_size }
     ensures outcome { read_outcome result ≡ read_size store.now.page_size store.now.bytes (is_loose reading) head }
 {
-    let most = entry_places(store.page_size());
+    let most = max_pns_per_page(store.page_size());
     let mut walk = Walk::new(store, head);
     let mut mark = None;
     let mut due = 2;

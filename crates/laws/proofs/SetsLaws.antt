@@ -4,11 +4,10 @@ use mathlib.Core.Path.{◌≡◌, refl, sym, ◌∙◌, ap}
 use mathlib.Core.Logic.{◌≢◌}
 use mathlib.Core.List.{List, [], ◌∷◌, ◌++◌, append-nil, append_assoc}
 use native.Mathlib.Nat.{le_of_suc-le-suc, not-suc-le-zero, add-zero, zero-add, suc-add, add-suc}
-use native.Mathlib.Numerals.{add-one}
 use native.Mathlib.Omega.{arith}
 use borrow.Rule.Slice.PartMut.{put_mid}
 use lib.ListN.{length, get_or, take, drop, set, length-set, length-drop, take-append-drop, replicate, length-replicate, replicate-append-replicate, drop_of_length-le}
-use lib.Seq.{sets, sets-eq, take-suc, get_or-drop, drop-drop, drop-append-le, set-set, set_comm, get_or-set_same, get_or-set_other, length-take-le, take_at, take-add}
+use lib.Seq.{sets, sets-eq, drop-drop, drop-append-le, set-set, set_comm, get_or-set_same, get_or-set_other, length-take-le, take_at, drop_at, take-add}
 
 -- in two parts
 pub sets-append : (l : List ℕ) (i : ℕ) (xs ys : List ℕ) → sets l i (xs ++ ys) ≡ sets (sets l i xs) (i + length xs) ys
@@ -32,14 +31,6 @@ pub zeros_joined : (l m : List ℕ) (from i k : ℕ) → m ≡ sets l from (repl
 zeros_joined l m from i k e =
     rw (← replicate-append-replicate {A = ℕ} i k 0, sets-append l from (replicate i 0) (replicate k 0), length-replicate {A = ℕ} i 0, ← e)
 
--- the first i values of a part of another list, with one more stored behind them
-pub copied_more : (l m a : List ℕ) (from to i : ℕ) → from + i < length a → m ≡ sets l to (take i (drop from a)) → set m (to + i) (get_or a (from + i) 0) ≡ sets l to (take (i + 1) (drop from a))
-copied_more l m a from to i h e =
-    let first = take i (drop from a) in
-    let inside : i < length (drop from a) = omega (arith, length-drop from a) in
-    let more : take (i + 1) (drop from a) ≡ first ++ (get_or a (from + i) 0 ∷ []) = rw (add-one, take-suc (drop from a) i 0 inside, get_or-drop) in
-    rw (more, sets-snoc l to first (get_or a (from + i) 0) i (length-take-le i (drop from a) (omega arith)), ← e)
-
 -- a part more
 pub part_copied : (l m a : List ℕ) (from to i n : ℕ) → from + i ≤ length a → m ≡ sets l to (take i (drop from a)) → sets m (to + i) (take n (drop (from + i) a)) ≡ sets l to (take (i + n) (drop from a))
 part_copied l m a from to i n h e =
@@ -53,9 +44,14 @@ sets_whole l vs e =
     let all : length l ≤ length vs = omega arith in
     sets-eq vs l 0 (omega arith) ∙ rw (zero-add (length vs), drop_of_length-le l all, append-nil vs)
 
--- a list that was written to a table from its start is its first part
+-- a list that was written to a table is the part there, and where it begins at the table's start its first part
+pub part-taken : (l : List ℕ) (i : ℕ) (vs : List ℕ) → i + length vs ≤ length l → take (length vs) (drop i (sets l i vs)) ≡ vs
+part-taken l i vs h =
+    rw (sets-eq vs l i h, append_assoc (take i l) vs (drop (i + length vs) l), drop_at (take i l) (vs ++ drop (i + length vs) l) i (length-take-le i l (omega arith)))
+    (take_at vs (drop (i + length vs) l) (length vs) refl)
+
 pub take-sets : (l vs : List ℕ) → length vs ≤ length l → take (length vs) (sets l 0 vs) ≡ vs
-take-sets l vs h = rw (sets-eq vs l 0 (omega arith)) (take_at vs (drop (0 + length vs) l) (length vs) refl)
+take-sets l vs h = part-taken l 0 vs (rw (zero-add (length vs)) h)
 
 -- a store before the places of the others
 set-sets : (l : List ℕ) (i : ℕ) (xs : List ℕ) (j x : ℕ) → i + length xs ≤ j → sets (set l j x) i xs ≡ set (sets l i xs) j x

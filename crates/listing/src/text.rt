@@ -93,7 +93,7 @@ impl<'a> Output<'a> {
             }
             Err(refusal) => {
                 self.put(b" refused");
-                self.put_number(u32::from(refusal) as u64);
+                self.put_number(u64::from(u32::from(refusal)));
             }
         }
     }

@@ -36,16 +36,16 @@ pub enum Place {
 pub fn find(store: &Store, pending: &Pending, page: PageNumber) -> Result<Place, Refusal>
     ensures { find_outcome result ≡ find store.now.page_size pending.now.numbers.now pending.now.pages.now store.now.bytes page.0 }
 {
-    let page_size = store.page_size();
+    let size = store.page_size().bytes();
     let number = page.0;
-    if pending.pages.len() / page_size < pending.numbers.len() {
+    if pending.pages.len() / size < pending.numbers.len() {
         return Err(Refusal::Buffer);
     }
     if let Some(i) = pending.position(number) {
-        return Ok(Place::Pending(page_size * i));
+        return Ok(Place::Pending(size * i));
     }
     if store.page_count() <= number {
         return Err(Refusal::Missing(number as usize));
     }
-    Ok(Place::Store(page_size * number as usize))
+    Ok(Place::Store(size * number as usize))
 }

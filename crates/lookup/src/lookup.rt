@@ -11,8 +11,9 @@ use page::store::Store;
 pub fn lookup<'n, 'a>(store: &Store<'a>, pending: &Pending<'n, 'a>, page: PageNumber) -> &'a [u8]
     ensures { result.now ≡ lookup store.now.page_size pending.now.numbers.now pending.now.pages.now store.now.bytes page.0 }
 {
+    let size = store.page_size().bytes();
     match find(store, pending, page) {
-        Ok(Place::Pending(at)) => &pending.pages[at..at + store.page_size()],
+        Ok(Place::Pending(at)) => &pending.pages[at..at + size],
         Ok(Place::Store(_)) => store.page(page.0),
         Err(_) => &[],
     }

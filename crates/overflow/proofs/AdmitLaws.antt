@@ -17,7 +17,7 @@ use Rattle.overflow.specs.Totals.{max_size, total_pages}
 use Rattle.overflow.specs.Cells.{Cell, cell_header, cell_of, decode_cell, CellCounts, cell_counts}
 use Rattle.overflow.specs.Reading.{admitted, numbers_room, bytes_room}
 use Rattle.overflow.specs.Steps.{needs_of, admitted_needs}
-use Rattle.overflow.specs.declared.walk.ValueCounts.{ValueCounts}
+use Rattle.overflow.specs.declared.cell.ValueCounts.{ValueCounts}
 use Rattle.overflow.proofs.TotalsLaws.{total_few}
 use Rattle.overflow.proofs.CellsLaws.{Decoding, decoded, not_decoded}
 

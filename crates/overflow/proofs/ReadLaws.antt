@@ -17,7 +17,7 @@ use Rattle.overflow.specs.Totals.{max_size, total_pages}
 use Rattle.overflow.specs.Cells.{cell_of}
 use Rattle.overflow.specs.Reading.{in_store, Found, Walked, ended, stopped, in_cell, found_by, walk_cell, table_after, whole_value, value_stored, read_value_into, all_numbers, delete_into}
 use Rattle.overflow.specs.Steps.{admitted_needs, walk_counts, walk_into, value_bytes_of, Copyable}
-use Rattle.overflow.specs.declared.walk.ValueCounts.{ValueCounts}
+use Rattle.overflow.specs.declared.cell.ValueCounts.{ValueCounts}
 use Rattle.overflow.proofs.WalkLaws.{walk_visited}
 use Rattle.overflow.proofs.AdmitLaws.{not_admitted, Admission, room_for_largest}
 

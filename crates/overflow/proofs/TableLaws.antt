@@ -26,7 +26,7 @@ use Rattle.overflow.specs.ValuePages.{number_count, byte_count, value_numbers, v
 use Rattle.overflow.specs.Cells.{cell_header, cell_count, cell_of}
 use Rattle.overflow.specs.Reading.{Source, in_store, parse_page, Found, with_page, in_cell, Walked, ended, onward, walk, table_after}
 use Rattle.overflow.specs.Steps.{visit_into, counts_with, resumed, walk_table, start_counts, walk_counts, walk_into}
-use Rattle.overflow.specs.declared.walk.ValueCounts.{ValueCounts}
+use Rattle.overflow.specs.declared.cell.ValueCounts.{ValueCounts}
 use Rattle.overflow.proofs.WithinLaws.{number_count_within, byte_count_within}
 use Rattle.overflow.proofs.WalkLaws.{Fits, Paged, length-value_numbers, length-value_bytes, fitting_numbers, fitting_bytes, parse_answer, page_long, store_page, store_paged}
 

@@ -8,8 +8,7 @@ use mathlib.Core.List.{List}
 use lib.ListN.{length, take, drop, length-drop, drop_of_length-le}
 use lib.Seq.{take_all, take-nil}
 use borrow.Author.Tests.{le-leb, lt-leb}
-use Rattle.page.specs.Bytes.{number_at}
-use Rattle.overflow.specs.ValuePages.{number_count, byte_count, value_bytes, numbers_within, bytes_within, number_within}
+use Rattle.overflow.specs.ValuePages.{number_count, byte_count, value_bytes, numbers_within, bytes_within}
 
 module _ (b : List ℕ) where
   pub number_count_within : 4 ≤ length b → numbers_within b ≡ number_count b
@@ -27,23 +26,6 @@ module _ (b : List ℕ) where
   pub byte_count_past : length b < 4 → bytes_within b ≡ 0
   unfolding bytes_within
   byte_count_past h = rw (lt-leb 4 (length b) h)
-
-  pub number_within_lem : (i : ℕ) → 8 + 4 * i ≤ length b → number_within b i ≡ number_at 4 b (4 + 4 * i)
-  unfolding number_within
-  number_within_lem i h = rw (le-leb (8 + 4 * i) (length b) h)
-
-  pub number_past : (i : ℕ) → length b < 8 + 4 * i → number_within b i ≡ 0
-  unfolding number_within
-  number_past i h = rw (lt-leb (8 + 4 * i) (length b) h)
-
-  -- the counts where they are read
-  pub number_count_reads : {n : ℕ} → 4 ≤ length b → n ≡ number_at 2 b 0 → n ≡ numbers_within b
-  unfolding number_count
-  number_count_reads h e = e ∙ sym (number_count_within h)
-
-  pub byte_count_reads : {n : ℕ} → 4 ≤ length b → n ≡ number_at 2 b 2 → n ≡ bytes_within b
-  unfolding byte_count
-  byte_count_reads h e = e ∙ sym (byte_count_within h)
 
   -- the value bytes, from the end of the numbers or of the page up to their own end or the page's
   pub bytes_part : {n m start end : ℕ} → n ≡ numbers_within b → m ≡ bytes_within b → start ≡ min (4 + 4 * n) (length b) → end ≡ min (start + m) (length b)

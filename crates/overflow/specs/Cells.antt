@@ -8,7 +8,7 @@ use Rattle.refusal.specs.declared.Refusal.{Refusal}
 use Rattle.page.specs.Bytes.{number_at, bytes_of, numbers_at, bytes_of_all}
 use Rattle.overflow.specs.Totals.{max_size}
 use Rattle.overflow.specs.Stored.{stored_in}
-use Rattle.overflow.specs.declared.cell.CellCounts.{CellCounts as CountsTold}
+use Rattle.overflow.specs.declared.cell.ValueCounts.{ValueCounts as CountsTold}
 
 pub record Cell : Type 0 where
   pub size : ℕ

@@ -9,7 +9,7 @@ use Rattle.page.specs.Pages.{page_count, page_at}
 use Rattle.overflow.specs.Totals.{body, total_pages}
 use Rattle.overflow.specs.ValuePages.{number_count, byte_count, value_numbers, value_bytes}
 use Rattle.overflow.specs.Cells.{Cell, decode_cell}
-use Rattle.overflow.specs.declared.walk.ValueCounts.{ValueCounts as CountsTold}
+use Rattle.overflow.specs.declared.cell.ValueCounts.{ValueCounts as CountsTold}
 
 -- ---- the walk
 

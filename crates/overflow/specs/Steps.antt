@@ -11,7 +11,7 @@ use Rattle.overflow.specs.ValuePages.{value_numbers, value_bytes, numbers_within
 use Rattle.overflow.specs.Cells.{Cell, cell_of}
 use Rattle.overflow.specs.Reading.{Source, in_store, parse_page, Walked, ended, stopped, walk_cell, table_after, admitted, numbers_room, bytes_room}
 use Rattle.overflow.specs.declared.page_ref.ValuePageRef.{ValuePageRef}
-use Rattle.overflow.specs.declared.walk.ValueCounts.{ValueCounts}
+use Rattle.overflow.specs.declared.cell.ValueCounts.{ValueCounts}
 use Rattle.overflow.specs.declared.walk.Purpose.{Purpose}
 use Rattle.overflow.specs.declared.walk.Purpose.TheVariants.{Reading, Deleting}
 

@@ -3,9 +3,8 @@ ghost use Rattle.std.specs.Prelude.{◌≡◌};
 ghost use Rattle.page.specs.PageSize.{IsPageSize};
 ghost use Rattle.overflow.specs.Steps.{admitted_needs, admitted_outcome};
 
-use crate::cell::cell_counts;
+use crate::cell::{ValueCounts, cell_counts};
 use crate::total::total_needed_pages;
-use crate::walk::ValueCounts;
 use page::store::Store;
 use refusal::Refusal;
 

@@ -10,9 +10,9 @@ use page::little_endian::{LittleEndian, write_numbers};
 use page::size::PageSize;
 use refusal::Refusal;
 
-// The size of a value and how many numbers its cell holds.
+// The bytes of a value, and how many numbers of pages its cell holds or were found.
 #[derive(Clone, Copy)]
-pub struct CellCounts {
+pub struct ValueCounts {
     pub size: usize,
     pub numbers: usize,
 }
@@ -28,7 +28,7 @@ pub fn encode_cell(
 ) -> Result<usize, Refusal>
     ensures { effect (written_outcome result) cell.new ≡ encode_cell_into page_size (cell_with size hash.now numbers.now) cell.old }
 {
-    if (max_overflow_value_size(page_size.bytes()) as u64) < size {
+    if (max_overflow_value_size(page_size) as u64) < size {
         return Err(Refusal::Size);
     }
     let length = 40 + 4 * numbers.len();
@@ -47,16 +47,16 @@ pub fn decode_cell(
     page_size: PageSize,
     cell: &[u8],
     hash: &mut [u8; 32],
-) -> Result<CellCounts, Refusal>
+) -> Result<ValueCounts, Refusal>
     ensures { effect (decoded_outcome result) hash.new ≡ decode_cell_into page_size cell.now hash.old }
 {
-    let counts = cell_counts(page_size.bytes(), cell)?;
+    let counts = cell_counts(page_size, cell)?;
     hash.copy_from_slice(&cell[8..40]);
     Ok(counts)
 }
 
 // The size of a cell's value and how many numbers the cell holds, or refusal 12 or 10.
-pub(crate) fn cell_counts(page_size: usize, cell: &[u8]) -> Result<CellCounts, Refusal>
+pub(crate) fn cell_counts(page_size: PageSize, cell: &[u8]) -> Result<ValueCounts, Refusal>
     ensures { decoded_outcome result ≡ cell_counts page_size cell.now }
 {
     let length = cell.len();
@@ -67,7 +67,7 @@ pub(crate) fn cell_counts(page_size: usize, cell: &[u8]) -> Result<CellCounts, R
     if (max_overflow_value_size(page_size) as u64) < size {
         return Err(Refusal::Size);
     }
-    Ok(CellCounts {
+    Ok(ValueCounts {
         size: size as usize,
         numbers: (length - 40) / 4,
     })

@@ -13,7 +13,7 @@ use page::size::PageSize;
 use refusal::Refusal;
 
 // Writes page `index` of a value to the start of the page buffer, and answers how many bytes it has. After a refusal the buffer is as
-// it was.
+// it was. The index counts the value's pages, and is no place in one of the slices.
 pub fn chunk(
     page_size: PageSize,
     value: &[u8],
@@ -23,15 +23,15 @@ pub fn chunk(
 ) -> Result<usize, Refusal>
     ensures { effect (written_outcome result) page.new ≡ chunk_into page_size value.now numbers.now index page.old }
 {
-    let page_bytes = page_size.bytes();
     let size = value.len();
-    if size == 0 || max_overflow_value_size(page_bytes) < size {
+    if size == 0 || max_overflow_value_size(page_size) < size {
         return Err(Refusal::Size);
     }
-    let total = total_needed_pages(page_bytes, size);
+    let total = total_needed_pages(page_size, size);
     if numbers.len() != total || total <= index {
         return Err(Refusal::Index);
     }
+    let page_bytes = page_size.bytes();
     if page.len() < page_bytes {
         return Err(Refusal::Buffer);
     }

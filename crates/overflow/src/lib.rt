@@ -10,4 +10,4 @@ pub mod page_ref;
 pub mod read;
 pub mod total;
 pub mod value_page;
-pub mod walk;
+mod walk;

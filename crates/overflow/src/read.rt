@@ -6,8 +6,9 @@ ghost use Rattle.overflow.specs.Reading.{read_lent, read_value_into, read_outcom
 ghost use Rattle.overflow.specs.Steps.{value_bytes_of, Copyable};
 
 use crate::admit::admit;
+use crate::cell::ValueCounts;
 use crate::page_ref::ValuePageRef;
-use crate::walk::{Purpose, ValueCounts, walk};
+use crate::walk::{Purpose, walk};
 use page::copy::copy;
 use page::store::Store;
 use refusal::Refusal;

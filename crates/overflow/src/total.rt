@@ -1,6 +1,5 @@
 // How many pages a value takes.
 ghost use Rattle.std.specs.Prelude.{◌≡◌, ◌≤◌};
-ghost use Rattle.page.specs.PageSize.{IsPageSize};
 ghost use Rattle.overflow.specs.Totals.{max_size, raw_pages, total_pages, spare_room, page_total, total_outcome};
 
 use page::size::PageSize;
@@ -24,37 +23,35 @@ pub struct PageTotal {
 pub fn page_total(page_size: PageSize, size: u64) -> Result<PageTotal, Refusal>
     ensures { total_outcome result ≡ page_total page_size size }
 {
-    let page_bytes = page_size.bytes();
-    if size == 0 || (max_overflow_value_size(page_bytes) as u64) < size {
+    if size == 0 || (max_overflow_value_size(page_size) as u64) < size {
         return Err(Refusal::Size);
     }
     let size = size as usize;
-    let total = total_needed_pages(page_bytes, size);
+    let total = total_needed_pages(page_size, size);
     let cell = total.min(MAX_OVERFLOW_CELL_NODE_POINTERS);
     let spare = spare_room(page_size, size, total);
     Ok(PageTotal { total, cell, spare })
 }
 
-// The largest value at pages of `page_size` bytes: the same at all of them.
+// The largest value at this page size: the same at all of them.
 #[tactic(auto, unfolding(crate::specs::Totals::max_size))]
-pub(crate) fn max_overflow_value_size(page_size: usize) -> usize
+pub(crate) fn max_overflow_value_size(page_size: PageSize) -> usize
     ensures { result ≡ max_size page_size }
 {
     MAX_OVERFLOW_VALUE_SIZE
 }
 
-// How many pages of `page_size` bytes a value takes, with the numbers that the cell has no place for. A store tells its page size as a
-// number, so this and what it calls take one and ask that it is a page size.
+// How many pages a value takes, with the numbers that the cell has no place for.
 #[tactic(auto, using(page::proofs::PageSizeLaws::page_least, crate::proofs::TotalsLaws::raw_facts), unfolding(crate::specs::Totals::total_pages))]
-pub(crate) fn total_needed_pages(page_size: usize, size: usize) -> usize
-    requires { IsPageSize page_size × (size ≤ max_size page_size) }
+pub(crate) fn total_needed_pages(page_size: PageSize, size: usize) -> usize
+    requires { size ≤ max_size page_size }
     ensures { result ≡ total_pages page_size size }
 {
     let raw = needed_pages(page_size, size);
     if raw <= MAX_OVERFLOW_CELL_NODE_POINTERS {
         return raw;
     }
-    let body = page_size - 4;
+    let body = page_size.bytes() - 4;
     let numbers = raw - MAX_OVERFLOW_CELL_NODE_POINTERS;
     let left = body * raw - size;
     if numbers <= left / 4 {
@@ -80,9 +77,9 @@ fn spare_room(page_size: PageSize, size: usize, total: usize) -> usize
 
 // How many pages the bytes alone would take.
 #[tactic(auto, using(page::proofs::PageSizeLaws::page_least, crate::proofs::TotalsLaws::raw_is))]
-fn needed_pages(page_size: usize, size: usize) -> usize
-    requires { IsPageSize page_size × (size ≤ max_size page_size) }
+fn needed_pages(page_size: PageSize, size: usize) -> usize
+    requires { size ≤ max_size page_size }
     ensures { result ≡ raw_pages page_size size }
 {
-    size.div_ceil(page_size - 4)
+    size.div_ceil(page_size.bytes() - 4)
 }

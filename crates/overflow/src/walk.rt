@@ -8,19 +8,14 @@ ghost use Rattle.overflow.specs.Cells.{cell_header};
 ghost use Rattle.overflow.specs.Reading.{in_store};
 ghost use Rattle.overflow.specs.Steps.{page_outcome, visit_into, deletes, walk_into, walk_outcome};
 
+use crate::cell::ValueCounts;
 use crate::page_ref::ValuePageRef;
 use page::little_endian::read_numbers;
 use page::store::Store;
 use refusal::Refusal;
 
-// The bytes of a value, and how many numbers of pages it has.
-#[derive(Clone, Copy)]
-pub struct ValueCounts {
-    pub size: usize,
-    pub numbers: usize,
-}
-
-// What a walk is for: reading takes all pages, deleting ends with the first page that has value bytes.
+// What a walk is for: reading takes all pages, deleting ends with the first page that has value bytes. Contracts name the two, so this is an enum
+// and no closure.
 #[derive(Clone, Copy)]
 pub(crate) enum Purpose {
     Reading,
@@ -59,8 +54,8 @@ pub(crate) fn walk(
     for i in 0..table.len() {
         let page = visit_page(store, i, found.numbers, table)?;
         let bytes = page.byte_count();
-        found.size += bytes as usize;
-        found.numbers += page.number_count() as usize;
+        found.size += usize::from(bytes);
+        found.numbers += usize::from(page.number_count());
         if purpose.ends_with(bytes) {
             return Ok(found);
         }
@@ -89,8 +84,8 @@ fn visit_page<'a>(
     }
     let bytes = store.page(number);
     let page = ValuePageRef::new(bytes);
-    let count = page.number_count() as usize;
-    if store.page_size() - 4 < 4 * count + page.byte_count() as usize {
+    let count = usize::from(page.number_count());
+    if store.page_size().bytes() - 4 < 4 * count + usize::from(page.byte_count()) {
         return Err(Refusal::ValuePage(i));
     }
     queue(bytes, 4, count, table, known);

@@ -2,17 +2,26 @@
 use Prim.Native.Nat.{ℕ, zero, suc, ◌+◌, ◌*◌, ◌/◌, ◌%◌, ◌^◌, ◌<◌, ◌≤◌}
 use mathlib.Core.Path.{◌≡◌, refl, ◌∙◌, ap, ap₂}
 use mathlib.Core.List.{List, [], ◌∷◌, ◌++◌, append_assoc, append-nil, Memᴰ}
-use native.Mathlib.Nat.{le_of_suc-le-suc, not-suc-le-zero, mul-zero, mul-suc, zero-add, add-zero, add_assoc, pow-zero, pow-suc, pow-succ', div-one, div-div-eq-div-mul, div-lt_iff_lt-mul}
+use native.Mathlib.Nat.{le_of_suc-le-suc, not-suc-le-zero, mul-zero, mul-suc, mul-le-mul_left, zero-add, add-zero, suc-add, add_assoc, pow-zero, pow-suc, pow-succ', div-one, div-div-eq-div-mul, div-lt_iff_lt-mul}
 use native.Mathlib.Numerals.{add-one}
 use native.Mathlib.Omega.{arith}
 use lib.ListN.{length, get_or, take, drop, set, replicate, length-append, get_or-append, length-drop}
 use lib.Seq.{sets, drop-cons, take-suc, length-take-le, get_or-take, get_or-drop, get_or-append-add, take-add, drop-drop}
+use lib.Arith.{mod-mul}
 use Rattle.std.proofs.Math.Seq.{take-length}
 use Rattle.std.specs.Int.{byte_at, bytes_low_first}
 use Rattle.page.specs.Bytes.{number_at, bytes_of, numbers_at, bytes_of_all}
 use Rattle.laws.proofs.SetsLaws.{sets-append, sets-snoc, take-sets}
 
 -- ---- reading
+
+-- a number of several bytes is that of the first ones, and behind it that of the others
+pub number_at_add : (v w : ℕ) (b : List ℕ) (i : ℕ) → number_at (v + w) b i ≡ number_at v b i + 256 ^ v * number_at w b (i + v)
+unfolding number_at
+number_at_add zero w b i = rw (zero-add w, pow-zero, add-zero i) (omega arith)
+number_at_add (suc v) w b i =
+    let e : i + 1 + v ≡ i + suc v = omega arith in
+    rw (suc-add, number_at_add v w b (i + 1), pow-suc, e) (omega arith)
 
 -- what is read depends only on the bytes in use
 pub number_at_same : (w : ℕ) (a b : List ℕ) (i j : ℕ) → ((k : ℕ) → k < w → get_or a (i + k) 0 ≡ get_or b (j + k) 0) → number_at w a i ≡ number_at w b j
@@ -70,6 +79,23 @@ low_first i (suc w) n = rw (byte-at i n, low_first (suc i) w n, div-div-eq-div-m
 
 pub low_bytes : (w n : ℕ) → bytes_low_first 0 w n ≡ bytes_of w n
 low_bytes w n = low_first 0 w n ∙ rw (pow-zero, div-one)
+
+-- the bytes of a number are those of its lower part and then those of its upper part
+pub bytes_of_add : (v w n : ℕ) → bytes_of (v + w) n ≡ bytes_of v n ++ bytes_of w (n / 256 ^ v)
+unfolding bytes_of
+bytes_of_add zero w n = rw (zero-add w, pow-zero, div-one)
+bytes_of_add (suc v) w n = rw (suc-add, bytes_of_add v w (n / 256), div-div-eq-div-mul, pow-succ')
+
+-- the bytes see only the part of a number that fits them
+pub bytes_of_mod : (w n : ℕ) → bytes_of w (n % 256 ^ w) ≡ bytes_of w n
+unfolding bytes_of
+bytes_of_mod zero n = refl
+bytes_of_mod (suc w) n =
+    let x = n / 256 % 256 ^ w in
+    let split : n % 256 ^ suc w ≡ x * 256 + n % 256 = rw pow-suc (mod-mul n (pow_positive w) (omega arith)) in
+    let low : n % 256 ^ suc w % 256 ≡ n % 256 = rw split (omega arith) in
+    let high : n % 256 ^ suc w / 256 ≡ x = rw split (omega arith) in
+    ap₂ (λ (x : ℕ) (xs : List ℕ). x ∷ xs) low (ap (bytes_of w) high ∙ bytes_of_mod w (n / 256))
 
 pub bytes_of_zero : (w : ℕ) → bytes_of w 0 ≡ replicate w 0
 unfolding bytes_of
@@ -186,6 +212,12 @@ pub numbers_more : (w : ℕ) (l m b : List ℕ) (at to i x : ℕ) → m ≡ sets
     → set m (to + i) x ≡ sets l to (numbers_at w b at (i + 1))
 numbers_more w l m b at to i x e f =
     rw (add-one, numbers_at-snoc w b at i, sets-snoc l to (numbers_at w b at i) (number_at w b (at + w * i)) i (length-numbers_at w b at i), ← e, f)
+
+-- where n numbers have room, each that comes before the last has
+pub number_inside : (w i at n : ℕ) {v j long : ℕ} → v ≡ w → i ≡ j → j < n → at + w * n ≤ long → at + v * i + w ≤ long
+number_inside w i at n {j = j} e f h room =
+    let upto : w * suc j ≤ w * n = mul-le-mul_left w h in
+    rw (e, f) (omega (arith, room, upto, mul-suc w j))
 
 -- bytes that hold the first i numbers of a table, with one more written behind them
 pub bytes_more : (w : ℕ) (l m r table : List ℕ) (from at i : ℕ) → from + i < length table → m ≡ sets l at (bytes_of_all w (take i (drop from table)))

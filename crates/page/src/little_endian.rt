@@ -1,32 +1,36 @@
 // Little-endian numbers in byte slices.
 //
-// These are leaves for sibling crates: each asks that its bytes lie within the slice. They take a place beside the slice, as a slice cut at the
+// These are leaves for sibling crates: each but `nth_number` asks that its bytes lie within the slice. They take a place beside the slice, as a slice cut at the
 // place would be tested once more.
-ghost use Rattle.std.specs.Prelude.{◌≡◌, ℕ, ◌+◌, ◌*◌, ◌≤◌, length};
+ghost use Rattle.std.specs.Prelude.{◌≡◌, ℕ, ◌+◌, ◌*◌, ◌≤◌, length, map};
 ghost use Rattle.std.proofs.lemmas.List.Edits.{sets};
-ghost use Rattle.page.specs.Bytes.{number_at, bytes_of, numbers_at, bytes_of_all};
+ghost use Rattle.page.specs.Bytes.{number_at, bytes_of, numbers_at, bytes_of_all, nth_within};
 
 use crate::copy::copy;
 
-// A number that takes `width` bytes, the lowest first.
-pub trait LittleEndian {
-    ghost width: { ℕ };
+// A number that takes `WIDTH` bytes, the lowest first.
+pub trait LittleEndian: Copy {
+    ghost WIDTH: { ℕ };
+
+    const WIDTH: usize;
 
     ghost value: { Self → ℕ };
 
     // The number in the bytes from place `at` on.
     fn read_at(b: &[u8], at: usize) -> Self
-        requires { at + width ≤ length b.now }
-        ensures { value result ≡ number_at width b.now at };
+        requires { at + WIDTH ≤ length b.now }
+        ensures { value result ≡ number_at WIDTH b.now at };
 
     // Puts the number's bytes at place `at`.
     fn write_at(self, b: &mut [u8], at: usize)
-        requires { at + width ≤ length b.old }
-        ensures { b.new ≡ sets b.old at (bytes_of width (value self)) };
+        requires { at + WIDTH ≤ length b.old }
+        ensures { b.new ≡ sets b.old at (bytes_of WIDTH (value self)) };
 }
 
 impl LittleEndian for u16 {
-    ghost width = { 2 };
+    ghost WIDTH = { 2 };
+
+    const WIDTH: usize = 2;
 
     ghost value = { λ n. n };
 
@@ -41,7 +45,9 @@ impl LittleEndian for u16 {
 }
 
 impl LittleEndian for u32 {
-    ghost width = { 4 };
+    ghost WIDTH = { 4 };
+
+    const WIDTH: usize = 4;
 
     ghost value = { λ n. n };
 
@@ -56,7 +62,9 @@ impl LittleEndian for u32 {
 }
 
 impl LittleEndian for u64 {
-    ghost width = { 8 };
+    ghost WIDTH = { 8 };
+
+    const WIDTH: usize = 8;
 
     ghost value = { λ n. n };
 
@@ -79,22 +87,37 @@ impl LittleEndian for u64 {
     }
 }
 
-// Fills the table with the numbers of 32 bits in the bytes from place `at` on.
-pub fn read_numbers(b: &[u8], at: usize, table: &mut [u32])
-    requires { at + 4 * length table.old ≤ length b.now }
-    ensures { table.new ≡ numbers_at 4 b.now at (length table.old) }
+// Number i of those of 32 bits that stand from place `from` on, and 0 where the bytes end before it does.
+#[tactic(auto, unfolding(crate::specs::Bytes::nth_within))]
+pub fn nth_number(b: &[u8], from: usize, i: usize) -> u32
+    ensures { result ≡ nth_within from b.now i }
+{
+    if b.len() < from || (b.len() - from) / 4 <= i {
+        return 0;
+    }
+    u32::read_at(b, from + 4 * i)
+}
+
+// Fills the table with the numbers in the bytes from place `at` on.
+pub fn read_numbers<T: LittleEndian>(b: &[u8], at: usize, table: &mut [T])
+    requires { at + T.WIDTH * length table.old ≤ length b.now }
+    ensures { map T.value table.new ≡ numbers_at T.WIDTH b.now at (length table.old) }
 {
     for i in 0..table.len() {
-        table[i] = u32::read_at(b, at + 4 * i);
+        table[i] = T::read_at(b, at + T::WIDTH * i);
     }
 }
 
-// Writes the numbers of the table to the bytes from place `at` on, 32 bits each.
-pub fn write_numbers(table: &[u32], b: &mut [u8], at: usize)
-    requires { at + 4 * length table.now ≤ length b.old }
-    ensures { b.new ≡ sets b.old at (bytes_of_all 4 table.now) }
+// Writes the numbers of the table to the bytes from place `at` on. Each is counted when it is written; their count is the answer.
+pub fn write_numbers<T: LittleEndian>(table: &[T], b: &mut [u8], at: usize) -> usize
+    requires { at + T.WIDTH * length table.now ≤ length b.old }
+    ensures count { result ≡ length table.now }
+    ensures bytes { b.new ≡ sets b.old at (bytes_of_all T.WIDTH (map T.value table.now)) }
 {
-    for i in 0..table.len() {
-        table[i].write_at(b, at + 4 * i);
+    let mut written = 0;
+    for &number in table {
+        number.write_at(b, at + T::WIDTH * written);
+        written += 1;
     }
+    written
 }

@@ -1,6 +1,5 @@
 // The pages of a store.
 ghost use Rattle.std.specs.Prelude.{◌≡◌, ◌<◌};
-ghost use Rattle.page.specs.PageSize.{IsPageSize};
 ghost use Rattle.page.specs.Pages.{page_count, page_at, Stored};
 
 use crate::size::PageSize;
@@ -9,7 +8,7 @@ use std::marker::Model;
 // A store: its bytes, which are lent, in pages of one size. Page p starts at byte `page_size` times p.
 #[derive(Drop)]
 pub struct Store<'a> {
-    page_size: usize,
+    page_size: PageSize,
     bytes: &'a [u8],
     // How many whole pages it has, and at most 2^32 - 1: a longer store counts as that.
     count: u32,
@@ -20,15 +19,14 @@ impl<'a> Model for Store<'a> {
 
     ghost view = { λ s. record { page_size = s.page_size; bytes = s.bytes.now } };
 
-    ghost invariant = { λ s. IsPageSize s.page_size × (s.count ≡ page_count s.page_size s.bytes.now) };
+    ghost invariant = { λ s. s.count ≡ page_count s.page_size s.bytes.now };
 }
 
 impl<'a> Store<'a> {
     pub fn new(page_size: PageSize, bytes: &'a [u8]) -> Store<'a>
         ensures { result ≡ record { page_size = page_size; bytes = bytes.entry.now } }
     {
-        let page_size = page_size.bytes();
-        let count = (bytes.len() / page_size).min(u32::MAX as usize) as u32;
+        let count = (bytes.len() / page_size.bytes()).min(u32::MAX as usize) as u32;
         Store {
             page_size,
             bytes,
@@ -36,10 +34,8 @@ impl<'a> Store<'a> {
         }
     }
 
-    // How many bytes each of its pages has.
-    pub fn page_size(&self) -> usize
-        ensures size { result ≡ self.now.page_size }
-        ensures is_size { IsPageSize result }
+    pub fn page_size(&self) -> PageSize
+        ensures { result ≡ self.now.page_size }
     {
         self.page_size
     }
@@ -56,7 +52,8 @@ impl<'a> Store<'a> {
         requires { page < page_count self.now.page_size self.now.bytes }
         ensures { result.now ≡ page_at self.now.page_size self.now.bytes page }
     {
-        let start = self.page_size * page as usize;
-        &self.bytes[start..start + self.page_size]
+        let size = self.page_size.bytes();
+        let start = size * page as usize;
+        &self.bytes[start..start + size]
     }
 }

@@ -1,6 +1,6 @@
 // A free list whose two tables are lent, and what is known of it by its shape.
 ghost use Rattle.std.specs.Prelude.{◌≡◌, true, ◌&&◌, ◌*◌, ◌-◌, ◌^◌, ◌≤◌, ◌<◌, ℕ, eqb, length, get_or};
-ghost use Rattle.page.specs.PageSize.{IsPageSize, capacity};
+ghost use Rattle.page.specs.PageSize.{capacity};
 ghost use Rattle.free_list.specs.Shape.{is_shape, is_fragmented, entries_below, entries_on, previous};
 ghost use Rattle.preallocate.specs.Lists.{whole_list};
 
@@ -12,7 +12,7 @@ use std::marker::Model;
 // A list of a store whose pages have one size: its page numbers and its entries are lent, both from the bottom page up.
 #[derive(Drop)]
 pub struct LentList<'a> {
-    pub(crate) page_size: usize,
+    page_size: PageSize,
     // How many entries a page holds.
     pub(crate) capacity: usize,
     pub(crate) pages: &'a [u32],
@@ -38,17 +38,15 @@ impl<'a> LentList<'a> {
         ensures fits { (i : ℕ) → get_or entries.entry.now i 0 < 2 ^ 32 }
     {
         LentList {
-            page_size: page_size.bytes(),
+            page_size,
             capacity: max_pns_per_page(page_size),
             pages,
             entries,
         }
     }
 
-    // How many bytes each of its pages has.
-    pub fn page_size(&self) -> usize
-        ensures size { result ≡ self.now.page_size }
-        ensures is_size { IsPageSize result }
+    pub fn page_size(&self) -> PageSize
+        ensures { result ≡ self.now.page_size }
     {
         self.page_size
     }

@@ -10,6 +10,7 @@ use crate::list::{LentList, mends};
 pub use crate::turns::Plan;
 use crate::turns::put;
 
+// `popped`, `kept` and `last` count entries and pages of the list. None is a place in `freed`, or in `out`, which begins with the first new page.
 impl<'a> LentList<'a> {
     // How many of the pages are left after `popped` pops.
     fn pages_after(&self, popped: usize) -> usize

@@ -1,12 +1,33 @@
 // Why a line is not right, or could not be told.
-ghost use Rattle.std.specs.Prelude.{◌≡◌, ◌↔◌, IsOk, IsOkUnless, IsTrue};
-ghost use Rattle.record_line.specs.declared.fault.Fault.TheVariants.{OutOfMemory};
+ghost use Rattle.std.specs.Prelude.{◌≡◌, ◌↔◌, IsOk, IsTrue};
+ghost use Rattle.record_line.specs.declared.fault.Fault.TheVariants.{Wrong, OutOfMemory};
 
 use std::alloc::{AllocError, AllocFailed};
 use std::error::Error;
 use std::fmt;
 
-// `Wrong` is a line that is no list of numbers, names no call, or has other numbers than the call gives.
+// A line that is no list of numbers, names no call, or has other numbers than the call gives.
+#[derive(Clone, Copy, Debug, PartialEq, Eq)]
+pub struct WrongLine;
+
+impl fmt::Display for WrongLine {
+    fn fmt<W: fmt::Write>(&self, f: &mut fmt::Formatter<W>) -> fmt::Result {
+        write!(f, "wrong line")
+    }
+}
+
+impl Error for WrongLine {}
+
+impl WrongLine {
+    // A wrong line unless this holds.
+    pub fn unless(right: bool) -> Result<(), WrongLine>
+        ensures { IsOk result ↔ IsTrue right }
+    {
+        if right { Ok(()) } else { Err(WrongLine) }
+    }
+}
+
+// Why a function that takes memory gave no answer: the line is wrong, or memory did not suffice.
 #[derive(Clone, Copy, Debug, PartialEq, Eq)]
 pub enum Fault {
     Wrong,
@@ -24,13 +45,11 @@ impl fmt::Display for Fault {
 
 impl Error for Fault {}
 
-impl Fault {
-    // `Wrong` unless this holds.
-    pub fn unless(right: bool) -> Result<(), Fault>
-        ensures ok { IsOk result ↔ IsTrue right }
-        ensures err { IsOkUnless result Fault.Wrong }
-    {
-        if right { Ok(()) } else { Err(Fault::Wrong) }
+impl From<WrongLine> for Fault {
+    ghost from_gives = { λ _ e. e ≡ Wrong };
+
+    fn from(_error: WrongLine) -> Fault {
+        Fault::Wrong
     }
 }
 

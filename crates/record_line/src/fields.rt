@@ -1,10 +1,10 @@
 // The numbers of a line, taken off its front.
-ghost use Rattle.std.specs.Prelude.{◌≡◌, ◌≢◌, ◌↔◌, ◌≤◌, ℕ, List, [], ◌∷◌, ◌++◌, Ok, IsOk, IfOk, OnOk, OnErr, IsOkUnless, MatchOption, length, map, vec_len};
+ghost use Rattle.std.specs.Prelude.{◌≡◌, ◌≢◌, ◌↔◌, ◌≤◌, ℕ, List, [], ◌∷◌, ◌++◌, Ok, IsOk, IfOk, IsErrOf, OnOk, OnErr, MatchOption, length, map, vec_len};
 ghost use Rattle.std.specs.List.{AllClonesOf};
 ghost use Rattle.std.proofs.Common.{rules};
-ghost use Rattle.record_line.specs.Fields.{NoneFits};
+ghost use Rattle.record_line.specs.Fields.{NoneFits, HasArray, HasRoom};
 
-use crate::fault::Fault;
+use crate::fault::{Fault, WrongLine};
 use std::alloc::Global;
 use std::marker::Model;
 use std::num::TryFromIntError;
@@ -69,11 +69,6 @@ impl<'a> Fields<'a> {
         Fields { alloc, rest: line }
     }
 
-    // The allocator.
-    pub fn allocator(&self) -> Global {
-        self.alloc
-    }
-
     // The next number, if one is left.
     fn next(&mut self) -> Option<u64>
         ensures { MatchOption result (self.old ≡ []) (λ n. self.old ≡ n ∷ self.new) }
@@ -84,20 +79,20 @@ impl<'a> Fields<'a> {
     }
 
     // The next number, as one of the type.
-    pub fn number<T: Number>(&mut self) -> Result<T, Fault>
+    pub fn number<T: Number>(&mut self) -> Result<T, WrongLine>
         ensures ok { IfOk result (λ n. self.old ≡ T.number n ∷ self.new) }
         ensures wrong { OnErr result (NoneFits T.try_from_gives self.old) }
-        ensures err { IsOkUnless result Fault.Wrong }
     {
-        let number = self.next().ok_or(Fault::Wrong)?;
-        T::try_from(number).map_err(|_| Fault::Wrong)
+        let number = self.next().ok_or(WrongLine)?;
+        T::try_from(number).map_err(|_| WrongLine)
     }
 
     // The array that comes next, as its length and its elements.
     pub fn array<T: Number + Drop>(&mut self) -> Result<Vec<T>, Fault>
-        ensures { IfOk result (λ v. self.old ≡ vec_len v ∷ (map T.number v.items ++ self.new)) }
+        ensures ok { IfOk result (λ v. self.old ≡ vec_len v ∷ (map T.number v.items ++ self.new)) }
+        ensures wrong { IsErrOf result Fault.Wrong → ¬ (HasArray T.try_from_gives self.old) }
     {
-        let count: u64 = self.number()?;
+        let count = self.next().ok_or(WrongLine)?;
         let mut items = Vec::new(self.alloc);
         for _i in 0..count {
             items.push(self.number()?)?;
@@ -110,29 +105,28 @@ impl<'a> Fields<'a> {
         ensures length { IfOk result (λ v. self.old ≡ vec_len v ∷ self.new) }
         ensures room { IfOk result (λ v. vec_len v ≤ length self.new) }
         ensures filled { IfOk result (λ v. (x : T) × T.from_gives FILLER x × AllClonesOf T.is_clone x v.items) }
+        ensures wrong { IsErrOf result Fault.Wrong → ¬ (HasRoom self.old) }
     {
-        let count = self.number::<u64>()? as usize;
-        Fault::unless(count <= self.rest.len())?;
+        let count = self.next().ok_or(WrongLine)? as usize;
+        WrongLine::unless(count <= self.rest.len())?;
         Ok(vec![in self.alloc; T::from(FILLER); count]?)
     }
 
     // Takes this number, which has to come next.
-    fn expect_number(&mut self, number: u64) -> Result<(), Fault>
+    fn expect_number(&mut self, number: u64) -> Result<(), WrongLine>
         ensures ok { OnOk result (self.old ≡ number ∷ self.new) }
         ensures wrong { OnErr result ((rest : List ℕ) → self.old ≢ number ∷ rest) }
-        ensures err { IsOkUnless result Fault.Wrong }
     {
         match self.next() {
             Some(next) if next == number => Ok(()),
-            _ => Err(Fault::Wrong),
+            _ => Err(WrongLine),
         }
     }
 
     // Takes these numbers, which have to come next.
-    pub fn expect<T: Number>(&mut self, items: &[T]) -> Result<(), Fault>
+    pub fn expect<T: Number>(&mut self, items: &[T]) -> Result<(), WrongLine>
         ensures ok { OnOk result (self.old ≡ map T.number items.now ++ self.new) }
         ensures wrong { OnErr result ((rest : List ℕ) → self.old ≢ map T.number items.now ++ rest) }
-        ensures err { IsOkUnless result Fault.Wrong }
     {
         for &item in items {
             self.expect_number(item.into())?;
@@ -141,20 +135,18 @@ impl<'a> Fields<'a> {
     }
 
     // Takes a status and the eight numbers beside it.
-    pub fn expect_reply(&mut self, status: u32, out: &[u64; 8]) -> Result<(), Fault>
+    pub fn expect_reply(&mut self, status: u32, out: &[u64; 8]) -> Result<(), WrongLine>
         ensures ok { OnOk result (self.old ≡ status ∷ (out.now ++ self.new)) }
         ensures wrong { OnErr result ((rest : List ℕ) → self.old ≢ status ∷ (out.now ++ rest)) }
-        ensures err { IsOkUnless result Fault.Wrong }
     {
         self.expect(&[status])?;
         self.expect(out)
     }
 
     // No number is left.
-    pub fn expect_end(&self) -> Result<(), Fault>
-        ensures end { IsOk result ↔ (self.now ≡ []) }
-        ensures err { IsOkUnless result Fault.Wrong }
+    pub fn expect_end(&self) -> Result<(), WrongLine>
+        ensures { IsOk result ↔ (self.now ≡ []) }
     {
-        Fault::unless(self.rest.is_empty())
+        WrongLine::unless(self.rest.is_empty())
     }
 }

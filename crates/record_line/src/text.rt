@@ -1,10 +1,10 @@
 // The numbers of a line of text.
-ghost use Rattle.std.specs.Prelude.{◌≡◌, IfOk, IsErrOf, IsOkUnless};
+ghost use Rattle.std.specs.Prelude.{◌≡◌, IfOk, IsErrOf};
 ghost use Rattle.std.specs.Result.{OkIff};
 ghost use Rattle.std.specs.Str.Parse.{digits_value};
 ghost use Rattle.record_line.specs.Text.{IsNumber, IsLine, numbers_of};
 
-use crate::fault::Fault;
+use crate::fault::{Fault, WrongLine};
 use std::alloc::Global;
 
 // The numbers, in decimal with one space between two.
@@ -20,12 +20,11 @@ pub fn numbers(alloc: Global, line: &str) -> Result<Vec<u64>, Fault>
 }
 
 // The number that digits write. A sign is refused.
-fn number(field: &str) -> Result<u64, Fault>
-    ensures value { OkIff result (IsNumber field.now) (digits_value 10 field.now) }
-    ensures err { IsOkUnless result Fault.Wrong }
+fn number(field: &str) -> Result<u64, WrongLine>
+    ensures { OkIff result (IsNumber field.now) (digits_value 10 field.now) }
 {
     if field.starts_with('+') {
-        return Err(Fault::Wrong);
+        return Err(WrongLine);
     }
-    field.parse().map_err(|_| Fault::Wrong)
+    field.parse().map_err(|_| WrongLine)
 }

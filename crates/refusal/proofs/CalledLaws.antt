@@ -5,7 +5,7 @@ use mathlib.Core.List.{List}
 use lib.Seq.{sets}
 use Rattle.refusal.specs.Outcome.{Outcome}
 use Rattle.refusal.specs.Refusals.{number, values, refusal}
-use Rattle.refusal.specs.Effect.{nothing, Effect, effect, Called, called, Returned, returned}
+use Rattle.refusal.specs.Effect.{Effect, effect, Called, called}
 use Rattle.refusal.specs.declared.Refusal.{Refusal}
 
 -- `of` turns what the operation answered into an outcome; it answered r, which is q
@@ -16,17 +16,7 @@ module _ {A B R : Type 0} (of : R → Outcome A) {r q : R} {lent : B} {e : Effec
   pub carried : (told : A → List ℕ) (out : List ℕ) → called told out (effect (of q) lent) ≡ called told out e
   carried told out = ap (called told out) same_effect
 
-  pub carried_plain : returned (effect (of q) lent) ≡ returned e
-  carried_plain = ap returned same_effect
-
 -- a refusal that is reported
 pub reported : {A B : Type 0} (told : A → List ℕ) (out : List ℕ) (r : Refusal) {lent : B} {status : ℕ} {after : List ℕ} → status ≡ number r → after ≡ sets out 0 (values r)
     → ◌≡◌ {A = Called B} (record { status = status; out = after; lent = lent }) (called told out (effect (refusal r) lent))
 reported told out r p q = rw (p, q)
-
-pub reported_plain : {B : Type 0} (r : Refusal) {lent : B} {status : ℕ} → status ≡ number r → ◌≡◌ {A = Returned B} (record { status = status; lent = lent }) (record { status = number r; lent = lent })
-reported_plain r p = rw p
-
--- an operation to which nothing is lent
-pub bare : {A : Type 0} {o p : Outcome A} → o ≡ p → effect o nothing ≡ effect p nothing
-bare e = rw e

@@ -83,7 +83,7 @@ impl Refusal {
     {
         match self {
             Refusal::ListPage(page) | Refusal::Count(page) | Refusal::Entry(page) => {
-                Some(page as u64)
+                Some(u64::from(page))
             }
             Refusal::Freed(place) => Some(place as u64),
             Refusal::Unknown(index) | Refusal::Missing(index) | Refusal::ValuePage(index) => {

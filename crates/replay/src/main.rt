@@ -24,30 +24,45 @@ struct Counts {
 
 fn main(rt: HostRuntime) -> io::Result<()> {
     let alloc = rt.alloc();
-    let input = BufReader::new(alloc, rt.reader())?;
-    let Counts { calls, wrong } = replay_all(&rt, alloc, input);
+    let mut input = BufReader::new(alloc, rt.reader())?;
+    let Counts { calls, wrong } = replay_all(&rt, alloc, &mut input);
     let _ = println!(rt; "replayed {calls} calls, {wrong} wrong");
     Ok(())
 }
 
-// Replays each line, and names the first wrong ones. Input that cannot be read ends there, and what cannot be written is left out.
-fn replay_all<R: BufRead + Drop>(rt: &impl Print, alloc: Global, input: R) -> Counts {
+// Replays each line. Input that cannot be read ends there, with what was read of its last line.
+fn replay_all<R: BufRead>(rt: &impl Print, alloc: Global, input: &mut R) -> Counts {
     let mut counts = Counts { calls: 0, wrong: 0 };
-    for (number, line) in (1u64..).zip(input.split(alloc, b'\n')) {
-        let Ok(line) = line else {
+    let mut line = Vec::new(alloc);
+    // A proved loop has to end, and nothing says that the input does: no run uses up the turns.
+    for number in 1..u64::MAX {
+        line.clear();
+        let ended = input.read_until(b'\n', &mut line).is_err();
+        if line.is_empty() {
             break;
-        };
-        if line.starts_with(b"#") {
-            continue;
         }
-        counts.calls = counts.calls.saturating_add(1);
-        if is_right(alloc, &line) {
-            continue;
+        let bytes = line.strip_suffix(b"\n").unwrap_or(&line);
+        counts = replay_line(rt, alloc, counts, number, bytes);
+        if ended {
+            break;
         }
-        counts.wrong = counts.wrong.saturating_add(1);
-        if counts.wrong <= MOST_NAMED {
-            let _ = println!(rt; "line {number} wrong");
-        }
+    }
+    counts
+}
+
+// Replays a line, and names it if it is one of the first wrong ones. What cannot be written is left out.
+fn replay_line(rt: &impl Print, alloc: Global, before: Counts, number: u64, line: &[u8]) -> Counts {
+    let mut counts = before;
+    if line.starts_with(b"#") {
+        return counts;
+    }
+    counts.calls = counts.calls.saturating_add(1);
+    if is_right(alloc, line) {
+        return counts;
+    }
+    counts.wrong = counts.wrong.saturating_add(1);
+    if counts.wrong <= MOST_NAMED {
+        let _ = println!(rt; "line {number} wrong");
     }
     counts
 }

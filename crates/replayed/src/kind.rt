@@ -1,8 +1,9 @@
-// The kinds of calls, and the numbers that name them.
+// The kinds of calls, and the numbers that name them. An enum, so that one `match` has the call of each; a table of functions would be
+// taken by an index.
 
 ghost use Rattle.std.specs.Prelude.{◌≡◌, MatchResult};
 
-use record_line::fault::Fault;
+use record_line::fault::WrongLine;
 
 #[derive(Clone, Copy, Debug, PartialEq, Eq)]
 pub enum Kind {
@@ -22,11 +23,11 @@ pub enum Kind {
 impl TryFrom<u64> for Kind {
     ghost use Rattle.replayed.specs.Kind.{number_of, NamesNone};
 
-    type Error = Fault;
+    type Error = WrongLine;
 
     ghost try_from_gives = { λ n r. MatchResult r (λ kind. n ≡ number_of kind) (λ _. NamesNone n) };
 
-    fn try_from(number: u64) -> Result<Kind, Fault> {
+    fn try_from(number: u64) -> Result<Kind, WrongLine> {
         match number {
             1 => Ok(Kind::Grow),
             2 => Ok(Kind::Total),
@@ -39,7 +40,7 @@ impl TryFrom<u64> for Kind {
             9 => Ok(Kind::ReadValue),
             10 => Ok(Kind::DeleteValue),
             11 => Ok(Kind::Lookup),
-            _ => Err(Fault::Wrong),
+            _ => Err(WrongLine),
         }
     }
 }

@@ -10,14 +10,13 @@ ghost use Rattle.replayed.specs.Kind.{NamesKind};
 use crate::kind::Kind;
 use record_line::fault::Fault;
 use record_line::fields::Fields;
+use replayed_values::values;
 use std::alloc::Global;
 
 mod kind;
 mod lists;
 mod lookups;
-mod pages;
 mod totals;
-mod values;
 
 // Whether the call that the first number names gives what stands behind. A line for which there is no memory is not right.
 pub fn replay(alloc: Global, line: &[u64]) -> bool
@@ -33,13 +32,13 @@ fn replay_line(alloc: Global, line: &[u64]) -> Result<(), Fault>
     let mut fields = Fields::new(alloc, line);
     let kind = Kind::try_from(fields.number::<u64>()?)?;
     replay_kind(kind, &mut fields)?;
-    fields.expect_end()
+    Ok(fields.expect_end()?)
 }
 
 fn replay_kind(kind: Kind, fields: &mut Fields<'_>) -> Result<(), Fault> {
     match kind {
-        Kind::Grow => totals::grow(fields),
-        Kind::Total => totals::total(fields),
+        Kind::Grow => Ok(totals::grow(fields)?),
+        Kind::Total => Ok(totals::total(fields)?),
         Kind::ReadList => lists::read_list(fields),
         Kind::HandOut => lists::hand_out(fields),
         Kind::Finish => lists::finish(fields),

@@ -1,12 +1,13 @@
 // Reading a list, handing out and finishing, at the page size that comes first in each line.
-use crate::pages::{NONE_PENDING, page_entries, page_size};
 use calls::saves;
+use free_list::page_ref::FreeListPageRef;
 use lookup::lookup::lookup;
 use page::number::PageNumber;
 use page::size::PageSize;
 use page::store::Store;
-use record_line::fault::Fault;
+use record_line::fault::{Fault, WrongLine};
 use record_line::fields::{BLANK_OUT, Fields};
+use replayed_values::pages::{NONE_PENDING, agrees, page_size};
 
 // size head store[], the lengths of both tables | status out pages entries
 pub fn read_list(fields: &mut Fields<'_>) -> Result<(), Fault> {
@@ -30,19 +31,23 @@ pub fn read_list(fields: &mut Fields<'_>) -> Result<(), Fault> {
             &NONE_PENDING,
             PageNumber(head),
         );
-        let of_page = page_entries(fields.allocator(), page)?;
-        Fault::unless(are_last(&of_page, &entries, out[1]))?;
+        WrongLine::unless(are_last(page, &entries, out[1]))?;
     }
     fields.expect_reply(status, &out)?;
     fields.expect(&pages)?;
-    fields.expect(&entries)
+    Ok(fields.expect(&entries)?)
 }
 
 // Whether the entries of a page are the last ones of the first `listed` places of the table.
-fn are_last(of_page: &[u32], entries: &[u32], listed: u64) -> bool {
+fn are_last(page: &[u8], entries: &[u32], listed: u64) -> bool {
+    let page = FreeListPageRef::new(page);
+    let listed = listed as usize;
+    let Some(first) = listed.checked_sub(usize::from(page.item_count())) else {
+        return false;
+    };
     entries
-        .get(..listed as usize)
-        .is_some_and(|all| all.ends_with(of_page))
+        .get(first..listed)
+        .is_some_and(|last| agrees(last, |i| page.item(i).0))
 }
 
 // The page size and the open save.
@@ -58,7 +63,7 @@ struct Opened {
 
 impl Opened {
     // size bump length P L, the count
-    fn take(fields: &mut Fields<'_>) -> Result<Opened, Fault> {
+    fn take(fields: &mut Fields<'_>) -> Result<Opened, WrongLine> {
         Ok(Opened {
             page_size: page_size(fields)?,
             bump: fields.number()?,
@@ -87,7 +92,7 @@ pub fn hand_out(fields: &mut Fields<'_>) -> Result<(), Fault> {
         &entries,
         &mut out,
     );
-    fields.expect_reply(status, &out)
+    Ok(fields.expect_reply(status, &out)?)
 }
 
 // an open save, pages[] entries[] freed[], the lengths of the buffer and of its numbers | status out pages entries buffer numbers
@@ -117,5 +122,5 @@ pub fn finish(fields: &mut Fields<'_>) -> Result<(), Fault> {
     fields.expect(&pages)?;
     fields.expect(&entries)?;
     fields.expect(&buffer)?;
-    fields.expect(&numbers)
+    Ok(fields.expect(&numbers)?)
 }

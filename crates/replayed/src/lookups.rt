@@ -1,10 +1,10 @@
 // Page lookup: among the pending pages of a save, and in the store.
-use crate::pages::page_size;
 use lookup::find::Pending;
 use page::number::PageNumber;
 use page::store::Store;
-use record_line::fault::Fault;
+use record_line::fault::{Fault, WrongLine};
 use record_line::fields::{BLANK_OUT, Fields};
+use replayed_values::pages::page_size;
 
 // page size, page, numbers[] pending[] store[] | status out
 pub fn lookup(fields: &mut Fields<'_>) -> Result<(), Fault> {
@@ -24,12 +24,12 @@ pub fn lookup(fields: &mut Fields<'_>) -> Result<(), Fault> {
         PageNumber(number),
     );
     // Status and places are numbers here, as the recorded lines have those of the C interface.
-    Fault::unless(match status {
+    WrongLine::unless(match status {
         0 if out[0] == 0 => is_part(page, &pending, out[1]),
         0 => is_part(page, &store, out[1]),
         _ => page.is_empty(),
     })?;
-    fields.expect_reply(status, &out)
+    Ok(fields.expect_reply(status, &out)?)
 }
 
 // Whether a page stands in the slice at byte `at`.

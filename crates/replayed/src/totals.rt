@@ -1,11 +1,11 @@
 // How a store grows, and how many pages a value takes.
 use calls::totals;
 use page::size::PageSize;
-use record_line::fault::Fault;
+use record_line::fault::WrongLine;
 use record_line::fields::{BLANK_OUT, Fields};
 
 // page | status out
-pub fn grow(fields: &mut Fields<'_>) -> Result<(), Fault> {
+pub fn grow(fields: &mut Fields<'_>) -> Result<(), WrongLine> {
     let page = fields.number()?;
     let mut out = BLANK_OUT;
     let status = totals::grow(page, &mut out);
@@ -13,7 +13,7 @@ pub fn grow(fields: &mut Fields<'_>) -> Result<(), Fault> {
 }
 
 // size | status out
-pub fn total(fields: &mut Fields<'_>) -> Result<(), Fault> {
+pub fn total(fields: &mut Fields<'_>) -> Result<(), WrongLine> {
     let size = fields.number()?;
     let mut out = BLANK_OUT;
     let status = totals::total(PageSize::standard(), size, &mut out);

@@ -59,9 +59,6 @@ pub record Lists (held-before : Option (List ℕ)) (before : Output) (first : Li
   pub texts : text ++ lines_text standard_page_size line rest ≡ lines_text standard_page_size first bytes
   pub lines : line_after line rest ≡ line_after first bytes
 
-pub lists_none : (held : Option (List ℕ)) (before : Output) (line : Line) (bytes : List ℕ) → Lists held before line bytes held before line bytes
-lists_none held before line bytes = record { text = []; prints = appends_nothing (printed held before); texts = refl; lines = refl }
-
 module _ {held-before held : Option (List ℕ)} {before now : Output} {first line : Line} {bytes rest : List ℕ} (lists : Lists held-before before first bytes held now line rest) where
   -- a line more
   pub lists_line : (i : ℕ) (held-after : Option (List ℕ)) (after : Output) → position (λ byte. byte == newline) rest ≡ Some i
@@ -92,12 +89,6 @@ consumes_then None b c xs ys first second = tt
 consumes_then (Some bytes) None c xs ys first second = absurd first
 consumes_then (Some bytes) (Some more) None xs ys first second = absurd second
 consumes_then (Some bytes) (Some more) (Some most) xs ys first second = first ∙ rw second (sym (append_assoc xs ys most))
-
--- a read that failed took nothing
-pub consumes_kept : (before after : Option (List ℕ)) → Keeps before after → Consumes before after []
-consumes_kept None after kept = tt
-consumes_kept (Some bytes) None kept = absurd kept
-consumes_kept (Some bytes) (Some more) kept = sym kept
 
 pub consumes_nothing : (left : Option (List ℕ)) → Consumes left left []
 consumes_nothing None = tt

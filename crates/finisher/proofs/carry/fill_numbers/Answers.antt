@@ -25,7 +25,7 @@ place : {s : ℕ} {v : Save} {freed : List ℕ} {work : Work} {numbers : List �
 place n = omega (arith, n.numbers_fit, written_are n.doable, written_some n.doable.save)
 
 pub returns-then-work-eq0 : goal.returns-then-work-eq0
-returns-then-work-eq0 c = c.new_pages.ensures ∙ ap (sets c.args.numbers.now 0) (sym (numbers_none (plan_for c.args.page_size c.args.lent.now c.args.freed.now) (sym (kept_is c.requires.doable) ∙ c.if-work-eq0.true)))
+returns-then-work-eq0 c = c.new_pages.ensures ∙ ap (sets c.args.numbers.now 0) (sym (numbers_none (plan_for c.args.lent.now.page_size c.args.lent.now.save c.args.freed.now) (sym (kept_is c.requires.doable) ∙ c.if-work-eq0.true)))
 
 pub bounds-numbers-0 : goal.bounds-numbers-0
 bounds-numbers-0 c = place c.requires
@@ -38,7 +38,7 @@ slice_bounds-new_pages-start c = simp length-set (place c.requires)
 
 pub returns : goal.returns
 returns c =
-    let t = plan_for c.args.page_size c.args.lent.now c.args.freed.now in
+    let t = plan_for c.args.lent.now.page_size c.args.lent.now.save c.args.freed.now in
     let some : t.kept ≡ 0 → ⊥ = λ z. c.if-work-eq0.false (kept_is c.requires.doable ∙ z) in
     let room : suc (length t.fresh) ≤ length c.args.numbers.now =
     omega (arith, c.requires.numbers_fit, written_are c.requires.doable, numbers_count c.requires.doable.save, ap length (numbers_some t some)) in

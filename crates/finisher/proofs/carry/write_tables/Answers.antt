@@ -19,7 +19,7 @@ mended_is s popped P L capped tested = tested ∙ ap (λ (k : ℕ). eqb popped 0
 pub mends-mended-requires : goal.mends-mended-requires
 mends-mended-requires c =
     let st = standing c.requires.fillable.doable.save in
-    omega (arith, c, st.entries_fit, (shaped _ _ _ st.shape).under, ap (λ (k : ℕ). k * (c.args.save.start.pages - 1)) c.max_pns_per_page-c.ensures)
+    omega (arith, c, st.entries_fit, (shaped _ _ _ st.shape).under, ap (λ (k : ℕ). k * (c.args.save.start.pages - 1)) c.max_pns_per_page-c.ensures.entries)
 
 pub overflow_sub-low : goal.overflow_sub-low
 overflow_sub-low c = let h = c.requires.fillable.doable in omega (arith, (bounds h.save).longer, pushed_is h)
@@ -28,7 +28,7 @@ pub overflow_sub-low-2 : goal.overflow_sub-low-2
 overflow_sub-low-2 c = let h = c.requires.fillable.doable in omega (arith, (bounds h.save).few, pushed_is h)
 
 pub write_pushes-requires : goal.write_pushes-requires
-write_pushes-requires c = pushable c.requires.fillable.doable (mended_is c.args.page_size c.args.work.popped c.args.save.start.pages c.args.save.start.entries c.max_pns_per_page-c.ensures c.mends-mended.ensures)
+write_pushes-requires c = pushable c.requires.fillable.doable (mended_is c.args.page_size c.args.work.popped c.args.save.start.pages c.args.save.start.entries c.max_pns_per_page-c.ensures.entries c.mends-mended.ensures)
 
 pub offset_bounds-pages-low : goal.offset_bounds-pages-low
 offset_bounds-pages-low c = omega (arith, c, (standing c.requires.fillable.doable.save).pages_fit)
@@ -44,5 +44,5 @@ copy-requires c =
 pub returns : goal.returns
 returns c =
     let pages = pages_carried c.requires.fillable.doable c.args.numbers.now c.saturating_sub-first.ensures c.requires.numbers_are c.copy.ensures in
-    let entries = entries_carried c.requires.fillable.doable (mended_is c.args.page_size c.args.work.popped c.args.save.start.pages c.args.save.start.entries c.max_pns_per_page-c.ensures c.mends-mended.ensures) c.write_pushes.ensures in
+    let entries = entries_carried c.requires.fillable.doable (mended_is c.args.page_size c.args.work.popped c.args.save.start.pages c.args.save.start.entries c.max_pns_per_page-c.ensures.entries c.mends-mended.ensures) c.write_pushes.ensures in
     λ i. record { pages = pages i; entries = entries i }

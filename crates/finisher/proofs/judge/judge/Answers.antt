@@ -11,7 +11,7 @@ use Rattle.refusal.specs.Outcome.{answer}
 use Rattle.page.specs.Growth.{max_bump}
 use Rattle.page.proofs.PageSizeLaws.{page_least}
 use Rattle.allocator.specs.OpenSave.{Save, bumped, state_fits}
-use Rattle.allocator.specs.Answers.{save_of}
+use Rattle.allocator.specs.Answers.{SizedSave, save_of}
 use Rattle.allocator.proofs.SaveLaws.{stands}
 use Rattle.finisher.specs.Finish.{first_bad, finished, finish}
 use Rattle.finisher.specs.declared.judge.Work.{Work}
@@ -74,34 +74,34 @@ module _ (s : ℕ) (v : Save) (freed : List ℕ) {w : Work} (is : w ≡ work_of 
   pages_are bytes places tested e = ap (λ (x : Work). leb (s * x.written) bytes && leb x.written places) (sym is) ∙ sym tested ∙ e
 
 -- the state of the save, where the test said that it stands, or not
-state_is : (s : ℕ) {v w : Save} {fits q : Bool} → v ≡ w → fits ≡ state_fits s w → fits ≡ q → state_fits s v ≡ q
-state_is s e tested is = rw (← e) at (sym tested ∙ is)
+state_is : {v w : SizedSave} {fits q : Bool} → v ≡ w → fits ≡ state_fits w.page_size w.save → fits ≡ q → state_fits v.page_size v.save ≡ q
+state_is e tested is = rw (← e) at (sym tested ∙ is)
 
 pub returns-then-not-state_fits-clause-judged : goal.returns-then-not-state_fits-clause-judged
 unfolding finish
 returns-then-not-state_fits-clause-judged c = rw (sym c.state_fits.ensures ∙ c.if-not-state_fits.true)
 
 pub overflow_sub-start : goal.overflow_sub-start
-overflow_sub-start c = (stands _ _ (state_is c.args.page_size c.lent.view_is c.state_fits.ensures c.if-not-state_fits.false)).most
+overflow_sub-start c = (stands _ _ (state_is c.lent.view_is c.state_fits.ensures c.if-not-state_fits.false)).most
 
 pub returns-then-past-start-clause-judged : goal.returns-then-past-start-clause-judged
 unfolding finish
 returns-then-past-start-clause-judged c =
     let size = rw c.bytes-size.ensures.bytes at c.bytes-size.ensures.size in
-    let state = state_is c.args.page_size c.lent.view_is c.state_fits.ensures c.if-not-state_fits.false in
+    let state = state_is c.lent.view_is c.state_fits.ensures c.if-not-state_fits.false in
     rw (← c.lent.view_is, state, limit-handed _ _ size state c.args.freed.now c.min-popped.ensures c.if-past-start.true)
 
 pub measure-work-requires : goal.measure-work-requires
 measure-work-requires c =
     let size = rw c.bytes-size.ensures.bytes at c.bytes-size.ensures.size in
-    let state = state_is c.args.page_size c.lent.view_is c.state_fits.ensures c.if-not-state_fits.false in
+    let state = state_is c.lent.view_is c.state_fits.ensures c.if-not-state_fits.false in
     rw (← c.lent.view_is) (begun _ _ size state c.min-popped.ensures c.if-past-start.false)
 
 pub returns-then-work-clause-judged : goal.returns-then-work-clause-judged
 unfolding finish
 returns-then-work-clause-judged c =
     let size = rw c.bytes-size.ensures.bytes at c.bytes-size.ensures.size in
-    let state = state_is c.args.page_size c.lent.view_is c.state_fits.ensures c.if-not-state_fits.false in
+    let state = state_is c.lent.view_is c.state_fits.ensures c.if-not-state_fits.false in
     let work = rw (← c.lent.view_is) at c.measure-work.ensures in
     rw (← c.lent.view_is, state, limit_past _ _ size state c.args.freed.now work c.if-work.true)
 
@@ -110,7 +110,7 @@ unfolding finish
 returns-in-Some-clause-judged c =
     let v = save_of c.lent.inside.save.start c.lent.inside.save.«open» c.lent.inside.pages.now c.lent.inside.entries.now in
     let size = rw c.bytes-size.ensures.bytes at c.bytes-size.ensures.size in
-    let state = state_is c.args.page_size c.lent.view_is c.state_fits.ensures c.if-not-state_fits.false in
+    let state = state_is c.lent.view_is c.state_fits.ensures c.if-not-state_fits.false in
     let work = rw (← c.lent.view_is) at c.measure-work.ensures in
     let bad = bad_is v c.args.freed.now c.min-popped.ensures c.first_bad.ensures c.in-Some.is in
     rw (← c.lent.view_is, state, limit_is _ _ size state c.args.freed.now work c.if-work.false, bad.0, bad.1)
@@ -120,9 +120,9 @@ unfolding finish
 returns-then-not-tables_fit-clause-judged c =
     let v = save_of c.lent.inside.save.start c.lent.inside.save.«open» c.lent.inside.pages.now c.lent.inside.entries.now in
     let size = rw c.bytes-size.ensures.bytes at c.bytes-size.ensures.size in
-    let state = state_is c.args.page_size c.lent.view_is c.state_fits.ensures c.if-not-state_fits.false in
+    let state = state_is c.lent.view_is c.state_fits.ensures c.if-not-state_fits.false in
     let work = rw (← c.lent.view_is) at c.measure-work.ensures in
-    let tables = tables_are c.args.page_size _ c.args.freed.now work _ _ c.tables_fit.ensures c.if-not-tables_fit.true in
+    let tables = tables_are c.lent.inside.page_size _ c.args.freed.now work _ _ c.tables_fit.ensures c.if-not-tables_fit.true in
     rw (← c.lent.view_is, state, limit_is _ _ size state c.args.freed.now work c.if-work.false, all_good v c.args.freed.now c.min-popped.ensures c.first_bad.ensures c.in_default.is, tables)
 
 pub pages_fit-requires : goal.pages_fit-requires
@@ -133,10 +133,10 @@ unfolding finish
 returns-then-not-pages_fit-clause-judged c =
     let v = save_of c.lent.inside.save.start c.lent.inside.save.«open» c.lent.inside.pages.now c.lent.inside.entries.now in
     let size = rw c.bytes-size.ensures.bytes at c.bytes-size.ensures.size in
-    let state = state_is c.args.page_size c.lent.view_is c.state_fits.ensures c.if-not-state_fits.false in
+    let state = state_is c.lent.view_is c.state_fits.ensures c.if-not-state_fits.false in
     let work = rw (← c.lent.view_is) at c.measure-work.ensures in
-    let tables = tables_are c.args.page_size _ c.args.freed.now work _ _ c.tables_fit.ensures c.if-not-tables_fit.false in
-    let room = pages_are c.args.page_size _ c.args.freed.now work _ _ (rw c.bytes-size.ensures.bytes at c.pages_fit.ensures) c.if-not-pages_fit.true in
+    let tables = tables_are c.lent.inside.page_size _ c.args.freed.now work _ _ c.tables_fit.ensures c.if-not-tables_fit.false in
+    let room = pages_are c.lent.inside.page_size _ c.args.freed.now work _ _ (rw c.bytes-size.ensures.bytes at c.pages_fit.ensures) c.if-not-pages_fit.true in
     rw (← c.lent.view_is, state, limit_is _ _ size state c.args.freed.now work c.if-work.false, all_good v c.args.freed.now c.min-popped.ensures c.first_bad.ensures c.in_default.is, tables, room)
 
 pub returns-clause-judged : goal.returns-clause-judged
@@ -144,9 +144,9 @@ unfolding finish
 returns-clause-judged c =
     let v = save_of c.lent.inside.save.start c.lent.inside.save.«open» c.lent.inside.pages.now c.lent.inside.entries.now in
     let size = rw c.bytes-size.ensures.bytes at c.bytes-size.ensures.size in
-    let state = state_is c.args.page_size c.lent.view_is c.state_fits.ensures c.if-not-state_fits.false in
+    let state = state_is c.lent.view_is c.state_fits.ensures c.if-not-state_fits.false in
     let work = rw (← c.lent.view_is) at c.measure-work.ensures in
-    let tables = tables_are c.args.page_size _ c.args.freed.now work _ _ c.tables_fit.ensures c.if-not-tables_fit.false in
-    let room = pages_are c.args.page_size _ c.args.freed.now work _ _ (rw c.bytes-size.ensures.bytes at c.pages_fit.ensures) c.if-not-pages_fit.false in
+    let tables = tables_are c.lent.inside.page_size _ c.args.freed.now work _ _ c.tables_fit.ensures c.if-not-tables_fit.false in
+    let room = pages_are c.lent.inside.page_size _ c.args.freed.now work _ _ (rw c.bytes-size.ensures.bytes at c.pages_fit.ensures) c.if-not-pages_fit.false in
     rw (← c.lent.view_is, state, limit_is _ _ size state c.args.freed.now work c.if-work.false, all_good v c.args.freed.now c.min-popped.ensures c.first_bad.ensures c.in_default.is, tables, room)
     (ap answer work)

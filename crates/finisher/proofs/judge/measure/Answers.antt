@@ -5,16 +5,17 @@ use Rattle.preallocate.specs.Plan.{plan_of}
 use Rattle.preallocate.specs.Counts.{counts, Makes}
 use Rattle.preallocate.specs.Lists.{SizedList}
 use Rattle.preallocate.specs.declared.turns.Plan.{Plan as Counts}
-use Rattle.allocator.specs.OpenSave.{Save, list_of}
+use Rattle.allocator.specs.OpenSave.{list_of}
+use Rattle.allocator.specs.Answers.{SizedSave}
 use Rattle.finisher.proofs.judge.measure.Goals as goal
 use native.Mathlib.Omega.{arith}
 use mathlib.Core.Path.{sym, ◌∙◌}
 use Rattle.finisher.proofs.JudgeLaws.{begun_poppable, same-work, changed-work, count_small, listed_small}
 
 -- the plan is that of the save's list
-planned : {s : ℕ} {v w : Save} → v ≡ w → {m : SizedList} → m ≡ record { page_size = s; list = list_of w }
+planned : {v w : SizedSave} → v ≡ w → {m : SizedList} → m ≡ record { page_size = w.page_size; list = list_of w.save }
     → (k : ℕ) (freed : List ℕ) (bump : ℕ) {before : List ℕ} {r : Counts} {after : List ℕ}
-    → Makes (plan_of (capacity m.page_size) m.list k freed bump) before r after → r ≡ counts (plan_of (capacity s) (list_of v) k freed bump)
+    → Makes (plan_of (capacity m.page_size) m.list k freed bump) before r after → r ≡ counts (plan_of (capacity v.page_size) (list_of v.save) k freed bump)
 planned e f k freed bump made = (rw (f, ← e) at made).counted
 
 pub returns-then-is_unchanged : goal.returns-then-is_unchanged

@@ -1,18 +1,7 @@
-use Rattle.std.proofs.Common.{◌≡◌, length, reverse}
+-- `push_pages`: the pages are copied, and then turned round where they stand.
 use Rattle.finisher.proofs.tables.push_pages.Goals as goal
-use mathlib.Core.Path.{refl, ◌∙◌}
 use native.Mathlib.Omega.{arith}
-use lib.ListN.{length-reverse}
-use lib.Seq.{take-length}
-use Rattle.finisher.proofs.TablesLaws.{push_more}
-
-pub loop-i-init : goal.loop-i-init
-loop-i-init c = refl
-
-pub loop-i-preserved : goal.loop-i-preserved
-loop-i-preserved c = push_more _ _ _ _ _ c.loop-i-test.true c.loop-i.invariant
+use Rattle.finisher.proofs.TablesLaws.{written_reversed}
 
 pub returns : goal.returns
-returns c =
-    let e : c.loop-i.i ≡ length (reverse c.args.pages.now) = rw length-reverse (omega arith) in
-    c.loop-i.invariant ∙ rw (e, take-length)
+returns c = written_reversed c.args.table.now c.copy.new.b c.args.pages.now c.args.at _ c.requires (omega arith) c.copy.ensures c.reverse.ensures.after

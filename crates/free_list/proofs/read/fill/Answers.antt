@@ -6,6 +6,7 @@ use native.Mathlib.Omega.{arith}
 use borrow.Rule.Slice.PartMut.{put_mid}
 use lib.ListN.{set, length-drop}
 use lib.Seq.{sets, length-take-le}
+use Rattle.std.proofs.lemmas.List.{map-id}
 use Rattle.laws.proofs.SetsLaws.{part-written}
 use Rattle.page.specs.Bytes.{numbers_at}
 use Rattle.page.specs.PageSize.{capacity}
@@ -72,7 +73,7 @@ read_numbers-requires c = (reached (goal.at.read_numbers-requires c).After-from-
 
 pub loop-left-preserved : goal.loop-left-preserved
 loop-left-preserved c =
-    (reached (goal.at.loop-left-preserved c).After-from-n).next _ _ c.read_numbers.ensures (c.prev_pn-page.ensures ∙ ap prev_within c.new-list_page.ensures)
+    (reached (goal.at.loop-left-preserved c).After-from-n).next _ _ (rw map-id at c.read_numbers.ensures) (c.prev_pn-page.ensures ∙ ap prev_within c.new-list_page.ensures)
 
 pub returns : goal.returns
 returns c = filling_done c.loop-left.invariant (omega arith)

@@ -10,10 +10,10 @@ unfolding page_total
 returns-then-size-eq0 c = elim c.then-size-eq0.branch [
   | then-size-eq0-via-then-size-eq0 w ↦ rw (lt-leb 1 c.args.size (omega arith))
   | then-size-eq0-via-else-size-eq0+then-max_overflow_value_size-size w ↦
-      rw (le-leb 1 c.args.size (omega arith), ← c.bytes-page_bytes.ensures.bytes, ← w.max_overflow_value_size.ensures, lt-leb _ _ w.if-max_overflow_value_size-size.true)
+      rw (le-leb 1 c.args.size (omega arith), ← w.max_overflow_value_size.ensures, lt-leb _ _ w.if-max_overflow_value_size-size.true)
 ]
 
 pub returns : goal.returns
 unfolding page_total total_of
 returns c =
-    rw (c.spare_room-spare.ensures, le-leb 1 c.args.size (omega arith), ← c.bytes-page_bytes.ensures.bytes, ← c.max_overflow_value_size.ensures, le-leb _ _ c.if-max_overflow_value_size-size.false, ← c.total_needed_pages-total.ensures, c.min-cell.ensures)
+    rw (c.spare_room-spare.ensures, le-leb 1 c.args.size (omega arith), ← c.max_overflow_value_size.ensures, le-leb _ _ c.if-max_overflow_value_size-size.false, ← c.total_needed_pages-total.ensures, c.min-cell.ensures)

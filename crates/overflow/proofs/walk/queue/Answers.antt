@@ -10,6 +10,7 @@ use native.Mathlib.Omega.{arith}
 use lib.ListN.{length-drop}
 use lib.Seq.{take_all, length-take-le}
 use borrow.Rule.Slice.PartMut.{put_mid}
+use Rattle.std.proofs.lemmas.List.{map-id}
 use Rattle.laws.proofs.SetsLaws.{part-written}
 use Rattle.page.proofs.BytesLaws.{take-numbers_at, length-numbers_at}
 
@@ -40,4 +41,4 @@ queued table b at n known room {part} h e f =
 pub returns : goal.returns
 returns c =
     let x = c.args in
-    queued x.table.now x.b.now x.at x.n x.known c.min-room.result c.if-table-known.false c.min-room.ensures c.read_numbers.ensures
+    queued x.table.now x.b.now x.at x.n x.known c.min-room.result c.if-table-known.false c.min-room.ensures (rw map-id at c.read_numbers.ensures)

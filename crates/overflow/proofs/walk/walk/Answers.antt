@@ -22,12 +22,16 @@ overflow_add-found-in-loop-i c = omega (arith, c.well_formed, c.loop-i.invariant
 pub returns-then-ends_with : goal.returns-then-ends_with
 unfolding cell_count
 returns-then-ends_with c =
-    walking_ended c.loop-i.invariant (omega arith) c.in_ok-page.ensures c.number_count.ensures c.byte_count-bytes.ensures (sym c.ends_with.ensures ∙ c.if-ends_with.true)
+    let numbers = c.from-in-loop-i.ensures ∙ c.number_count.ensures in
+    let bytes = c.from.ensures ∙ c.byte_count-bytes.ensures in
+    walking_ended c.loop-i.invariant (omega arith) c.in_ok-page.ensures numbers bytes (rw (← c.from.ensures) at (sym c.ends_with.ensures ∙ c.if-ends_with.true))
     ∙ walk_whole _ _ _ _ _ refl c.queue.ensures
 
 pub loop-i-preserved : goal.loop-i-preserved
 loop-i-preserved c =
-    walking_next c.loop-i.invariant (omega arith) c.in_ok-page.ensures c.number_count.ensures c.byte_count-bytes.ensures c.visit_page.auto.table (omega arith) (omega arith) (sym c.ends_with.ensures ∙ c.if-ends_with.false)
+    let numbers = c.from-in-loop-i.ensures ∙ c.number_count.ensures in
+    let bytes = c.from.ensures ∙ c.byte_count-bytes.ensures in
+    walking_next c.loop-i.invariant (omega arith) c.in_ok-page.ensures numbers bytes c.visit_page.auto.table (omega arith) (omega arith) (rw (← c.from.ensures) at (sym c.ends_with.ensures ∙ c.if-ends_with.false))
 
 pub returns : goal.returns
 unfolding cell_count

@@ -21,4 +21,4 @@ returns-in_err-number-clause-wrong c =
     let road = YieldsList-at c.into_iter-field-iterator.ensures.into_iter_gives (YieldsList-from_str_split 32 c.args.line.now (lit< tt) split.text split.has_more split.pattern) in
     let turn = YieldsList-turn road c.loop-field.yielded _ c.loop-field.yielded_by _ _ c.in-Some.field c.in-Some.is c.next.ensures.steps in
     let P : List ℕ → Type 0 = IsNumber in
-    λ _ all. c.in_err-number.ensures.value (subst P (sym turn.1) (all (length c.loop-field.yielded) c.in-Some.field.now turn.0))
+    λ _ all. c.in_err-number.ensures (subst P (sym turn.1) (all (length c.loop-field.yielded) c.in-Some.field.now turn.0))

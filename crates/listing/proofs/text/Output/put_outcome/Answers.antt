@@ -9,4 +9,4 @@ returns-in-Ok c = rw c.in-Ok.is (puts_then c.put_number.ensures (puts_then c.put
 
 pub returns-in-Err : goal.returns-in-Err
 unfolding outcome_text
-returns-in-Err c = rw (c.in-Err.is, ← c.from.ensures) (puts_then c.put.ensures c.put_number-in-Err.ensures)
+returns-in-Err c = rw (c.in-Err.is, ← c.from.ensures, ← c.from-in-Err.ensures) (puts_then c.put.ensures c.put_number-in-Err.ensures)

@@ -5,8 +5,8 @@ use Rattle.page.proofs.store.Store.new.Goals as goal
 use native.Mathlib.Omega.{arith}
 
 pub nonzero_div-bytes : goal.nonzero_div-bytes
-nonzero_div-bytes c = let h = page_least c.bytes-page_size.ensures.size in omega arith
+nonzero_div-bytes c = let h = page_least c.bytes.ensures.size in omega arith
 
 pub invariant_of-result : goal.invariant_of-result
 unfolding page_count
-invariant_of-result c = (c.bytes-page_size.ensures.size, c.min-count.ensures)
+invariant_of-result c = rw (← c.bytes.ensures.bytes) c.min-count.ensures

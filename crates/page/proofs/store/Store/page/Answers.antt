@@ -9,14 +9,16 @@ use native.Mathlib.Omega.{arith}
 
 pub slice_bounds-result-end : goal.slice_bounds-result-end
 slice_bounds-result-end c =
-    let s = c.self.inside in
-    let below : c.args.page < page_count s.page_size s.bytes.now = subst (λ v. c.args.page < page_count v.page_size v.bytes) (sym c.self.view_is) c.requires in
-    let h : s.page_size * c.args.page + s.page_size ≤ length s.bytes.now = page_within_lem s.page_size s.bytes.now c.args.page (omega (arith, page_least c.self.invariant.0)) below in
+    let v = c.self.inside in
+    let s = c.bytes-size.result in
+    let below : c.args.page < page_count v.page_size v.bytes.now = subst (λ w. c.args.page < page_count w.page_size w.bytes) (sym c.self.view_is) c.requires in
+    let inside : s * c.args.page + s ≤ length v.bytes.now =
+    page_within_lem s v.bytes.now c.args.page (omega (arith, page_least c.bytes-size.ensures.size)) (rw (← c.bytes-size.ensures.bytes) at below) in
     omega arith
 
 pub returns : goal.returns
 unfolding page_at
 returns c =
-    let s = c.self.inside in
-    let e : s.page_size * c.args.page + s.page_size - s.page_size * c.args.page ≡ s.page_size = omega arith in
-    rw (e, ← c.self.view_is)
+    let s = c.bytes-size.result in
+    let e : s * c.args.page + s - s * c.args.page ≡ s = omega arith in
+    rw (e, c.bytes-size.ensures.bytes, ← c.self.view_is)

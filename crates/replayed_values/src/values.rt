@@ -1,11 +1,12 @@
 // Values: writing their pages and cells, reading and deleting them.
-use crate::pages::{NONE_PENDING, page_numbers, page_size};
+use crate::pages::{NONE_PENDING, agrees, page_size};
 use calls::values;
 use lookup::lookup::lookup;
+use overflow::page_ref::ValuePageRef;
 use page::number::PageNumber;
 use page::size::PageSize;
 use page::store::Store;
-use record_line::fault::Fault;
+use record_line::fault::{Fault, WrongLine};
 use record_line::fields::{BLANK_OUT, FILLER, Fields};
 
 // page size, index, value[] numbers[], the length of the page | status page
@@ -17,7 +18,7 @@ pub fn write_page(fields: &mut Fields<'_>) -> Result<(), Fault> {
     let mut page = fields.blank()?;
     let status = values::write_value_page(page_size, &value, &numbers, index, &mut page);
     fields.expect(&[status])?;
-    fields.expect(&page)
+    Ok(fields.expect(&page)?)
 }
 
 // size, hash[] of 32 bytes, numbers[], the length of the cell | status cell
@@ -26,10 +27,10 @@ pub fn encode_cell(fields: &mut Fields<'_>) -> Result<(), Fault> {
     let hash = fields.array::<u8>()?;
     let numbers = fields.array()?;
     let mut cell = fields.blank()?;
-    let hash = hash.as_array().ok_or(Fault::Wrong)?;
+    let hash = hash.as_array().ok_or(WrongLine)?;
     let status = values::encode_cell(PageSize::standard(), size, hash, &numbers, &mut cell);
     fields.expect(&[status])?;
-    fields.expect(&cell)
+    Ok(fields.expect(&cell)?)
 }
 
 // cell[] | status out hash
@@ -39,7 +40,7 @@ pub fn decode_cell(fields: &mut Fields<'_>) -> Result<(), Fault> {
     let mut out = BLANK_OUT;
     let status = values::decode_cell(PageSize::standard(), &cell, &mut hash, &mut out);
     fields.expect_reply(status, &out)?;
-    fields.expect(&hash)
+    Ok(fields.expect(&hash)?)
 }
 
 // page size, cell[] store[], the lengths of the numbers and of the value | status out numbers value
@@ -52,27 +53,28 @@ pub fn read_value(fields: &mut Fields<'_>) -> Result<(), Fault> {
     let mut out = BLANK_OUT;
     let status = values::read_value(page_size, &cell, &store, &mut numbers, &mut value, &mut out);
     if status == 0 {
-        let first = *numbers.first().ok_or(Fault::Wrong)?;
+        let first = *numbers.first().ok_or(WrongLine)?;
         let page = lookup(
             &Store::new(page_size, &store),
             &NONE_PENDING,
             PageNumber(first),
         );
-        let of_page = page_numbers(fields.allocator(), page)?;
-        Fault::unless(are_behind_cell(&of_page, &numbers, &cell))?;
+        WrongLine::unless(are_behind_cell(page, &numbers, &cell))?;
     }
     fields.expect_reply(status, &out)?;
     fields.expect(&numbers)?;
-    fields.expect(&value)
+    Ok(fields.expect(&value)?)
 }
 
 // Whether the numbers on the first page of a value stand in the table behind those of its cell, which has 40 bytes before its own.
-fn are_behind_cell(of_page: &[u32], numbers: &[u32], cell: &[u8]) -> bool {
+fn are_behind_cell(page: &[u8], numbers: &[u32], cell: &[u8]) -> bool {
+    let page = ValuePageRef::new(page);
     let in_cell = cell.len().saturating_sub(40) / 4;
+    let with_page = in_cell + usize::from(page.number_count());
     in_cell != 0
         && numbers
-            .get(in_cell..)
-            .is_some_and(|behind| behind.starts_with(of_page))
+            .get(in_cell..with_page)
+            .is_some_and(|behind| agrees(behind, |i| page.number(i).0))
 }
 
 // page size, cell[] store[], the length of the numbers | status out numbers
@@ -84,5 +86,5 @@ pub fn delete_value(fields: &mut Fields<'_>) -> Result<(), Fault> {
     let mut out = BLANK_OUT;
     let status = values::delete_value(page_size, &cell, &store, &mut numbers, &mut out);
     fields.expect_reply(status, &out)?;
-    fields.expect(&numbers)
+    Ok(fields.expect(&numbers)?)
 }

@@ -1,0 +1,5 @@
+// Recorded calls that write, read and delete values: whether they give the same now. A line is as the crate `replayed` says.
+#![tactic(auto)]
+
+pub mod pages;
+pub mod values;
