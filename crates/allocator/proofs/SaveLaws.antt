@@ -15,6 +15,9 @@ use Rattle.laws.proofs.Tests.{and-true, and-true_right, and-false_right}
 use Rattle.page.specs.PageSize.{capacity}
 use Rattle.page.specs.Growth.{max_bump, grown, grow}
 use Rattle.free_list.specs.Shape.{is_shape}
+use Rattle.allocator.specs.Answers.{save_of}
+use Rattle.allocator.specs.declared.save.Start.{Start}
+use Rattle.allocator.specs.declared.save.OpenSave.{OpenSave}
 use Rattle.allocator.specs.OpenSave.{Save, state_fits, bumped, next_number, next_recorded, hand_out, counters, count_up}
 
 -- two tests that hold together are equal
@@ -89,6 +92,12 @@ grown_is page n h e = cc (rw (le-leb page max_bump h) at e)
 pub grown_always : (page : ℕ) {n : ℕ} {vs : List ℕ} → page ≤ max_bump → refused n vs ≡ grow page → page ≡ grown page
 unfolding grow
 grown_always page h e = cc (rw (le-leb page max_bump h) at e)
+
+-- whether a save can go on does not hang on what was counted up
+pub counted_otherwise : (s : ℕ) (start : Start) (v w : OpenSave) (pages entries : List ℕ)
+    → state_fits s (save_of start v pages entries) ≡ state_fits s (save_of start w pages entries)
+unfolding state_fits
+counted_otherwise s start v w pages entries = refl
 
 -- ---- handing out
 

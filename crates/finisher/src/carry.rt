@@ -1,4 +1,7 @@
 // Writing what was judged: the number list, the tables, and the pages.
+//
+// The save and its tables come apart, since the tables are lent by `&mut` here, and by `&` for the judging. The freed numbers are lent beside
+// the work, which is numbers alone and goes by value.
 ghost use Rattle.std.specs.Prelude.{◌≡◌};
 ghost use Rattle.std.proofs.lemmas.List.Edits.{sets};
 ghost use Rattle.free_list.specs.Reading.{tables_now, tables_before, tables_after};

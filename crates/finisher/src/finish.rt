@@ -82,7 +82,7 @@ fn head_of(pages: &[u32]) -> PageNumber
     PageNumber(pages.last().copied().unwrap_or(0))
 }
 
-// The recorded length, grown where it does not cover the bump.
+// The recorded length, grown where it does not cover the bump: it may be the bump, where a page that is handed out lies below it.
 fn recorded_after(recorded: u32, bump: u32) -> u32
     requires { bump ≤ max_bump }
     ensures { result ≡ cond (ltb recorded bump) (grown bump) recorded }

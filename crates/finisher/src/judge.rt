@@ -32,7 +32,8 @@ pub(crate) struct Room {
     pub(crate) numbers: usize,
 }
 
-// Judges a finish for which so much room is lent, in the order of the refusals.
+// Judges a finish for which so much room is lent, in the order of the refusals. That the page size is one is told too, as callers see the save's
+// value alone.
 pub(crate) fn judge(lent: &LentSave, freed: &[u32], room: Room) -> Result<Work, Refusal>
     ensures judged { judged_outcome result ≡ judged lent.now.page_size lent.now.save freed.now (room_of room) }
     ensures size { IsPageSize lent.now.page_size }

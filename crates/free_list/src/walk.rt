@@ -38,7 +38,7 @@ pub(crate) struct Walk {
 }
 
 // How far a walk has come: the list has ended, or the walk has nested as many calls as it may, and goes on from here. Neither is a failure, so
-// this is no `Result`; the refusals are.
+// this is no `Result`; the refusals are. A `ControlFlow` would hide which is which.
 #[derive(Clone, Copy)]
 pub(crate) enum Descent {
     Ended(ListCounts),
@@ -61,7 +61,8 @@ impl Walk {
         }
     }
 
-    // Visits the page at which the walk stands, and goes on to the page under it. A page holds `most` entries.
+    // Visits the page at which the walk stands, and goes on to the page under it. A page holds `most` entries, which goes beside the store: the
+    // pages of a value have no such number.
     fn visit(self, store: &Store, reading: Reading, most: usize) -> Result<Walk, Refusal>
         requires { MayVisit store.now.page_size most self }
         ensures { Visits store.now.page_size store.now.bytes (is_loose reading) self result }
@@ -159,7 +160,8 @@ fn entries_fit(page: &[u8], n: usize, count: u32) -> bool
 }
 
 // The size of the list with this head page, or why it is refused: the walk, as often as it takes. Where it stands is marked each time that
-// it has come twice as far, so that a list whose pages point at each other is seen soon after the walk has gone round once.
+// it has come twice as far, so that a list whose pages point at each other is seen soon after the walk has gone round once. That the page size
+// is one is told too, as callers see the store's value alone.
 #[tactic(auto, using(page::proofs::PageSizeLaws::page_least, page::proofs::PagesLaws::page_count_fits, crate::proofs::ReadingLaws::size_start))]
 pub(crate) fn measure(store: &Store, reading: Reading, head: u32) -> Result<ListCounts, Refusal>
     ensures sized { IsPageSize store.now.page_size }

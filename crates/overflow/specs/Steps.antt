@@ -29,9 +29,9 @@ admitted_outcome = outcome (λ n. n)
 
 -- ---- one page of the walk
 
--- a page as the code has it is the list of its bytes
+-- a page as the code has it holds the list of its bytes
 abbrev pub page_outcome : Result ValuePageRef Refusal → Outcome (List ℕ)
-page_outcome = outcome (λ p. p)
+page_outcome = outcome (λ p. p.0.now)
 
 -- page i of a walk that knows so many numbers, the first `total` of them by its table: its bytes, with its numbers put behind the known
 unfoldable pub visit_into : ℕ → Source → ℕ → ℕ → ℕ → List ℕ → Effect (List ℕ) (List ℕ)

@@ -9,7 +9,8 @@ use page::store::Store;
 use refusal::Refusal;
 
 // The bytes of a cell's value and the numbers of its pages, where a value can have its size and there is room for so many numbers and
-// bytes.
+// bytes. That the page size is one is told too, as callers see the store's value alone. Store and cell go side by side here and in what calls
+// this, as a host has them: one is of the value, the other of all values.
 #[tactic(auto, using(crate::proofs::CellsLaws::decoding, crate::proofs::AdmitLaws::admit_undecoded, crate::proofs::AdmitLaws::decoded_few, crate::proofs::AdmitLaws::admit_empty))]
 pub(crate) fn admit(
     store: &Store,

@@ -61,7 +61,8 @@ fn write_page(page_size: PageSize, value: &[u8], numbers: &[u32], index: usize, 
     );
 }
 
-// How many of the numbers past the cell's stand on the pages before page `index` of `total`: as many as their bodies hold.
+// How many of the numbers past the cell's stand on the pages before page `index` of `total`: as many as their bodies hold. `few`, here and where
+// else it is asked, bounds the products: no value has more pages.
 fn numbers_before(page_size: PageSize, total: usize, index: usize) -> usize
     requires few { total ≤ max_size page_size + 4 }
     requires upto { index ≤ total }

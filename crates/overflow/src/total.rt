@@ -41,7 +41,8 @@ pub(crate) fn max_overflow_value_size(page_size: PageSize) -> usize
     MAX_OVERFLOW_VALUE_SIZE
 }
 
-// How many pages a value takes, with the numbers that the cell has no place for.
+// How many pages a value takes, with the numbers that the cell has no place for. That a value can have the size was tested, and refused with 10: a
+// type for such sizes would be made by that test alone.
 #[tactic(auto, using(page::proofs::PageSizeLaws::page_least, crate::proofs::TotalsLaws::raw_facts), unfolding(crate::specs::Totals::total_pages))]
 pub(crate) fn total_needed_pages(page_size: PageSize, size: usize) -> usize
     requires { size ≤ max_size page_size }

@@ -64,7 +64,7 @@ pub(crate) fn walk(
 }
 
 // Visits page i of a walk, whose number stands in the table if it is known: puts the page's numbers behind the `known` ones, and answers
-// the page. Refusals 14, 15 and 16.
+// the page. Refusals 14, 15 and 16. Both places are in the table, which is lent whole as it is filled while it is read.
 #[tactic(auto, using(page::proofs::PageSizeLaws::page_least, crate::proofs::TableLaws::visit_unknown, crate::proofs::TableLaws::visit_missing, crate::proofs::TableLaws::visit_unfit, crate::proofs::TableLaws::visit_page))]
 fn visit_page<'a>(
     store: &Store<'a>,

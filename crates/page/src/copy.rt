@@ -36,7 +36,7 @@ pub fn copy_steps(a: &[u8], b: &mut [u8], at: usize) -> usize
     steps
 }
 
-// Copies n words, a turn at most, and returns the count of steps.
+// Copies n words, a turn at most, and returns the count of steps. The bytes are cut by n, so that it need not be found by a quotient again.
 fn copy_turn(a: &[u8], n: usize, b: &mut [u8], at: usize) -> usize
     requires { (n ≤ 32) × (length a.now ≡ 8 * n) × (at + 8 * n ≤ length b.old) }
     ensures { (result ≡ n) × (b.new ≡ sets b.old at a.now) }

@@ -1,6 +1,7 @@
 // Bytes made zero.
 //
-// A leaf for sibling crates: it asks that the bytes lie within the slice.
+// A leaf for sibling crates: it asks that the bytes lie within the slice. It takes both places, as a slice that the caller cut would ask that they
+// stand in order.
 ghost use Rattle.std.specs.Prelude.{◌≡◌, ◌-◌, ◌/◌, ◌≤◌, length, replicate};
 ghost use Rattle.std.proofs.lemmas.List.Edits.{sets};
 
@@ -17,7 +18,7 @@ pub fn clear_steps(b: &mut [u8], from: usize, to: usize) -> usize
     clear_part(&mut b[from..to])
 }
 
-// Makes all bytes zero. Each step is counted when its bytes are written.
+// Makes all bytes zero. Each step raises the count when its bytes are written, as document 02 asks.
 fn clear_part(b: &mut [u8]) -> usize
     ensures { (result ≡ length b.old / 8) × (b.new ≡ replicate (length b.old) 0) }
 {

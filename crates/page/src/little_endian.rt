@@ -103,12 +103,13 @@ pub fn read_numbers<T: LittleEndian>(b: &[u8], at: usize, table: &mut [T])
     requires { at + T.WIDTH * length table.old ≤ length b.now }
     ensures { map T.value table.new ≡ numbers_at T.WIDTH b.now at (length table.old) }
 {
-    for i in 0..table.len() {
-        table[i] = T::read_at(b, at + T::WIDTH * i);
+    for (i, number) in table.iter_mut().enumerate() {
+        *number = T::read_at(b, at + T::WIDTH * i);
     }
 }
 
-// Writes the numbers of the table to the bytes from place `at` on. Each is counted when it is written; their count is the answer.
+// Writes the numbers of the table to the bytes from place `at` on, and answers their count. Each raises it when it is written: `copy_steps` tells
+// its steps by it, and document 02 asks for a count that the steps raise.
 pub fn write_numbers<T: LittleEndian>(table: &[T], b: &mut [u8], at: usize) -> usize
     requires { at + T.WIDTH * length table.now ≤ length b.old }
     ensures count { result ≡ length table.now }

@@ -26,7 +26,7 @@ impl<'a> Store<'a> {
     pub fn new(page_size: PageSize, bytes: &'a [u8]) -> Store<'a>
         ensures { result ≡ record { page_size = page_size; bytes = bytes.entry.now } }
     {
-        let count = (bytes.len() / page_size.bytes()).min(u32::MAX as usize) as u32;
+        let count = u32::try_from(bytes.len() / page_size.bytes()).unwrap_or(u32::MAX);
         Store {
             page_size,
             bytes,

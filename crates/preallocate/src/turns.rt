@@ -20,7 +20,7 @@ ghost use Rattle.preallocate.specs.Steps.{room_of, whole_of, top_swapped, bump_t
 use crate::list::LentList;
 
 // How far a finish has come, in numbers. A plan comes in by value and goes out by value, beside `out`, which is lent: in one struct both would be
-// lent, and each clause would speak of the plan before and after.
+// lent, and each clause would speak of the plan before and after. What a turn asks of a plan (`Due`) is no invariant of it: a turn that ends has room.
 #[derive(Clone, Copy)]
 pub struct Plan {
     // Pages kept.

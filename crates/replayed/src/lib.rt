@@ -16,6 +16,8 @@ use std::alloc::Global;
 mod kind;
 mod lists;
 mod lookups;
+#[cfg(test)]
+mod tests;
 mod totals;
 
 // Whether the call that the first number names gives what stands behind. A line for which there is no memory is not right.
@@ -48,17 +50,5 @@ fn replay_kind(kind: Kind, fields: &mut Fields<'_>) -> Result<(), Fault> {
         Kind::ReadValue => values::read_value(fields),
         Kind::DeleteValue => values::delete_value(fields),
         Kind::Lookup => lookups::lookup(fields),
-    }
-}
-
-#[cfg(test)]
-mod tests {
-    use crate::replay;
-
-    // A store that has to hold page 2 grows to 16,384 pages.
-    #[test]
-    fn a_recorded_call(rt: HostRuntime) {
-        let line = [1, 2, 0, 16384, 9, 9, 9, 9, 9, 9, 9];
-        assert!(rt; replay(rt.alloc(), &line));
     }
 }

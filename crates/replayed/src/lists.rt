@@ -1,4 +1,7 @@
 // Reading a list, handing out and finishing, at the page size that comes first in each line.
+ghost use Rattle.std.specs.Prelude.{OnOk};
+ghost use Rattle.replayed_values.specs.Taken.{TakesAtLeast};
+
 use calls::saves;
 use free_list::page_ref::FreeListPageRef;
 use lookup::lookup::lookup;
@@ -10,7 +13,9 @@ use record_line::fields::{BLANK_OUT, Fields};
 use replayed_values::pages::{NONE_PENDING, agrees, page_size};
 
 // size head store[], the lengths of both tables | status out pages entries
-pub fn read_list(fields: &mut Fields<'_>) -> Result<(), Fault> {
+pub fn read_list(fields: &mut Fields<'_>) -> Result<(), Fault>
+    ensures { OnOk result (TakesAtLeast 14 fields.old fields.new) }
+{
     let page_size = page_size(fields)?;
     let head = fields.number()?;
     let store = fields.array()?;
@@ -63,7 +68,9 @@ struct Opened {
 
 impl Opened {
     // size bump length P L, the count
-    fn take(fields: &mut Fields<'_>) -> Result<Opened, WrongLine> {
+    fn take(fields: &mut Fields<'_>) -> Result<Opened, WrongLine>
+        ensures { OnOk result (TakesAtLeast 6 fields.old fields.new) }
+    {
         Ok(Opened {
             page_size: page_size(fields)?,
             bump: fields.number()?,
@@ -76,7 +83,9 @@ impl Opened {
 }
 
 // an open save, pages[] entries[] | status out
-pub fn hand_out(fields: &mut Fields<'_>) -> Result<(), Fault> {
+pub fn hand_out(fields: &mut Fields<'_>) -> Result<(), Fault>
+    ensures { OnOk result (TakesAtLeast 17 fields.old fields.new) }
+{
     let save = Opened::take(fields)?;
     let pages = fields.array()?;
     let entries = fields.array()?;
@@ -96,7 +105,9 @@ pub fn hand_out(fields: &mut Fields<'_>) -> Result<(), Fault> {
 }
 
 // an open save, pages[] entries[] freed[], the lengths of the buffer and of its numbers | status out pages entries buffer numbers
-pub fn finish(fields: &mut Fields<'_>) -> Result<(), Fault> {
+pub fn finish(fields: &mut Fields<'_>) -> Result<(), Fault>
+    ensures { OnOk result (TakesAtLeast 20 fields.old fields.new) }
+{
     let save = Opened::take(fields)?;
     let mut pages = fields.array()?;
     let mut entries = fields.array()?;

@@ -1,4 +1,7 @@
 // Page lookup: among the pending pages of a save, and in the store.
+ghost use Rattle.std.specs.Prelude.{OnOk};
+ghost use Rattle.replayed_values.specs.Taken.{TakesAtLeast};
+
 use lookup::find::Pending;
 use page::number::PageNumber;
 use page::store::Store;
@@ -7,7 +10,9 @@ use record_line::fields::{BLANK_OUT, Fields};
 use replayed_values::pages::page_size;
 
 // page size, page, numbers[] pending[] store[] | status out
-pub fn lookup(fields: &mut Fields<'_>) -> Result<(), Fault> {
+pub fn lookup(fields: &mut Fields<'_>) -> Result<(), Fault>
+    ensures { OnOk result (TakesAtLeast 14 fields.old fields.new) }
+{
     let page_size = page_size(fields)?;
     let number = fields.number()?;
     let numbers = fields.array()?;

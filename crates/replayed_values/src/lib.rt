@@ -2,4 +2,6 @@
 #![tactic(auto)]
 
 pub mod pages;
+#[cfg(test)]
+mod tests;
 pub mod values;

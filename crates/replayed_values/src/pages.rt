@@ -1,5 +1,7 @@
 // Page sizes; and whether a table has what the reader of a page tells.
-ghost use Rattle.std.specs.Prelude.{◌≡◌, ◌≢◌, ℕ, true, false, EachIndex, SomeIndex, slice_index};
+ghost use Rattle.std.specs.Prelude.{◌≡◌, ◌≢◌, ◌-◌, ◌/◌, ℕ, true, false, ◌∷◌, IfOk, OnErr, EachIndex, SomeIndex, slice_index};
+ghost use Rattle.page.specs.PageSize.{page_size_of};
+ghost use Rattle.replayed_values.specs.Taken.{HasNoNumber};
 
 use lookup::find::Pending;
 use page::size::PageSize;
@@ -13,7 +15,10 @@ pub const NONE_PENDING: Pending = Pending {
 };
 
 // The page size that comes next, in bytes. The least page has 16, and each larger one some words of four bytes more.
-pub fn page_size(fields: &mut Fields<'_>) -> Result<PageSize, WrongLine> {
+pub fn page_size(fields: &mut Fields<'_>) -> Result<PageSize, WrongLine>
+    ensures ok { IfOk result (λ s. (n : ℕ) × (fields.old ≡ n ∷ fields.new) × (s ≡ page_size_of ((n - 16) / 4))) }
+    ensures wrong { OnErr result (HasNoNumber fields.old) }
+{
     let bytes = fields.number::<u64>()?;
     let words = bytes.saturating_sub(16) / 4;
     Ok(PageSize::of_words(words as usize))

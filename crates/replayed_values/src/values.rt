@@ -1,4 +1,7 @@
 // Values: writing their pages and cells, reading and deleting them.
+ghost use Rattle.std.specs.Prelude.{◌≡◌, ◌∷◌, ◌++◌, OnOk};
+ghost use Rattle.replayed_values.specs.Taken.{TakesAtLeast};
+
 use crate::pages::{NONE_PENDING, agrees, page_size};
 use calls::values;
 use lookup::lookup::lookup;
@@ -10,31 +13,43 @@ use record_line::fault::{Fault, WrongLine};
 use record_line::fields::{BLANK_OUT, FILLER, Fields};
 
 // page size, index, value[] numbers[], the length of the page | status page
-pub fn write_page(fields: &mut Fields<'_>) -> Result<(), Fault> {
+pub fn write_page(fields: &mut Fields<'_>) -> Result<(), Fault>
+    ensures { OnOk result (TakesAtLeast 6 fields.old fields.new) }
+{
     let page_size = page_size(fields)?;
     let index = fields.number()?;
     let value = fields.array()?;
     let numbers = fields.array()?;
     let mut page = fields.blank()?;
     let status = values::write_value_page(page_size, &value, &numbers, index, &mut page);
+    Ok(expect_written(fields, status, &page)?)
+}
+
+// Takes a status and the bytes that the call left.
+fn expect_written(fields: &mut Fields<'_>, status: u32, bytes: &[u8]) -> Result<(), WrongLine>
+    ensures { OnOk result (fields.old ≡ status ∷ (bytes.now ++ fields.new)) }
+{
     fields.expect(&[status])?;
-    Ok(fields.expect(&page)?)
+    fields.expect(bytes)
 }
 
 // size, hash[] of 32 bytes, numbers[], the length of the cell | status cell
-pub fn encode_cell(fields: &mut Fields<'_>) -> Result<(), Fault> {
+pub fn encode_cell(fields: &mut Fields<'_>) -> Result<(), Fault>
+    ensures { OnOk result (TakesAtLeast 37 fields.old fields.new) }
+{
     let size = fields.number()?;
     let hash = fields.array::<u8>()?;
     let numbers = fields.array()?;
     let mut cell = fields.blank()?;
     let hash = hash.as_array().ok_or(WrongLine)?;
     let status = values::encode_cell(PageSize::standard(), size, hash, &numbers, &mut cell);
-    fields.expect(&[status])?;
-    Ok(fields.expect(&cell)?)
+    Ok(expect_written(fields, status, &cell)?)
 }
 
 // cell[] | status out hash
-pub fn decode_cell(fields: &mut Fields<'_>) -> Result<(), Fault> {
+pub fn decode_cell(fields: &mut Fields<'_>) -> Result<(), Fault>
+    ensures { OnOk result (TakesAtLeast 42 fields.old fields.new) }
+{
     let cell = fields.array()?;
     let mut hash = [FILLER; 32];
     let mut out = BLANK_OUT;
@@ -44,7 +59,9 @@ pub fn decode_cell(fields: &mut Fields<'_>) -> Result<(), Fault> {
 }
 
 // page size, cell[] store[], the lengths of the numbers and of the value | status out numbers value
-pub fn read_value(fields: &mut Fields<'_>) -> Result<(), Fault> {
+pub fn read_value(fields: &mut Fields<'_>) -> Result<(), Fault>
+    ensures { OnOk result (TakesAtLeast 14 fields.old fields.new) }
+{
     let page_size = page_size(fields)?;
     let cell = fields.array()?;
     let store = fields.array()?;
@@ -78,7 +95,9 @@ fn are_behind_cell(page: &[u8], numbers: &[u32], cell: &[u8]) -> bool {
 }
 
 // page size, cell[] store[], the length of the numbers | status out numbers
-pub fn delete_value(fields: &mut Fields<'_>) -> Result<(), Fault> {
+pub fn delete_value(fields: &mut Fields<'_>) -> Result<(), Fault>
+    ensures { OnOk result (TakesAtLeast 13 fields.old fields.new) }
+{
     let page_size = page_size(fields)?;
     let cell = fields.array()?;
     let store = fields.array()?;

@@ -60,7 +60,7 @@ the_page {s} {store} {pages₀} {entries₀} {head} {left₀} {pages} {entries} 
     }
 
 reached : (c : After-from-n) → Page c.args.store.now.page_size c.args.store.now.bytes c.args.tables.pages.now c.args.tables.entries.now c.args.head c.args.list.pages c.loop-left.pages c.loop-left.entries c.loop-left.page c.loop-left.left c.loop-left.at c.from-n.result c.page-bytes.result.now
-reached c = the_page c.loop-left-test.true c.loop-left.invariant c.page-bytes.ensures (c.from-n.ensures ∙ c.item_count.ensures ∙ ap count_within c.new-list_page.ensures)
+reached c = the_page c.loop-left-test.true c.loop-left.invariant c.page-bytes.ensures (c.from-n.ensures ∙ c.item_count.ensures ∙ ap (λ r. count_within r.now) c.new-list_page.ensures)
 
 pub overflow_sub-at : goal.overflow_sub-at
 overflow_sub-at c = (reached (goal.at.overflow_sub-at c).After-from-n).enough
@@ -73,7 +73,7 @@ read_numbers-requires c = (reached (goal.at.read_numbers-requires c).After-from-
 
 pub loop-left-preserved : goal.loop-left-preserved
 loop-left-preserved c =
-    (reached (goal.at.loop-left-preserved c).After-from-n).next _ _ (rw map-id at c.read_numbers.ensures) (c.prev_pn-page.ensures ∙ ap prev_within c.new-list_page.ensures)
+    (reached (goal.at.loop-left-preserved c).After-from-n).next _ _ (rw map-id at c.read_numbers.ensures) (c.prev_pn-page.ensures ∙ ap (λ r. prev_within r.now) c.new-list_page.ensures)
 
 pub returns : goal.returns
 returns c = filling_done c.loop-left.invariant (omega arith)

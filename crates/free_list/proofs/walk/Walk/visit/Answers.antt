@@ -87,7 +87,7 @@ returns-then-count-page c =
 tested : (c : After-count_fits) → Counted c.args.store.now.page_size c.args.store.now.bytes (is_loose c.args.reading) c.args.most c.args.self c.page-bytes.result.now c.from-n.result c.count_fits.result
 tested c =
     counted c.requires c.if-self-eq0.false (omega (arith, c.page_count-count.ensures, c.if-count-page.false)) c.page-bytes.ensures
-    (c.from-n.ensures ∙ c.item_count.ensures ∙ ap count_within c.new-list_page.ensures) c.count_fits.ensures
+    (c.from-n.ensures ∙ c.item_count.ensures ∙ ap (λ r. count_within r.now) c.new-list_page.ensures) c.count_fits.ensures
 
 listed : (c : After-entries_fit) → c.entries_fit.result ≡ all_entries_fit (page_count c.args.store.now.page_size c.args.store.now.bytes) (numbers_at 4 c.page-bytes.result.now 6 c.from-n.result)
 listed c = c.entries_fit.ensures ∙ rw c.page_count-count.ensures
@@ -108,4 +108,4 @@ returns-then-not-entries_fit c =
 pub returns : goal.returns
 returns c =
     let at = goal.at.returns c in
-    next (tested at.After-count_fits) c.if-not-count_fits.false (listed at.After-entries_fit) (c.prev_pn.ensures ∙ ap prev_within c.new-list_page.ensures) c.if-not-entries_fit.false
+    next (tested at.After-count_fits) c.if-not-count_fits.false (listed at.After-entries_fit) (c.prev_pn.ensures ∙ ap (λ r. prev_within r.now) c.new-list_page.ensures) c.if-not-entries_fit.false

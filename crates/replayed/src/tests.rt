@@ -1,0 +1,55 @@
+// Recorded lines that are right, so that memory suffices for each.
+use crate::replay;
+use record_line::text::numbers;
+use std::test::Fail;
+
+// A store that has to hold page 2 grows to 16,384 pages.
+#[test]
+fn grows(rt: HostRuntime) {
+    let line = [1, 2, 0, 16384, 9, 9, 9, 9, 9, 9, 9];
+    assert!(rt; replay(rt.alloc(), &line));
+}
+
+// A list of one page, with one entry, in a store of two pages.
+#[test]
+fn reads_a_list(rt: HostRuntime) -> Result<(), Fail> {
+    let line = numbers(
+        rt.alloc(),
+        "3 16 1 32 0 0 0 0 0 0 0 0 0 0 0 0 0 0 0 0 0 0 0 0 1 0 1 0 0 0 0 0 0 0 0 0 1 1 0 1 1 9 9 9 9 9 9 1 1",
+    )?;
+    assert!(rt; replay(rt.alloc(), &line));
+    Ok(())
+}
+
+// No entry is left, so the page comes from the bump.
+#[test]
+fn hands_out(rt: HostRuntime) -> Result<(), Fail> {
+    let line = numbers(
+        rt.alloc(),
+        "4 1024 26 8192 0 0 77 0 0 0 103 78 8192 9 9 9 9 9",
+    )?;
+    assert!(rt; replay(rt.alloc(), &line));
+    Ok(())
+}
+
+// A save that took and freed nothing.
+#[test]
+fn finishes(rt: HostRuntime) -> Result<(), Fail> {
+    let line = numbers(
+        rt.alloc(),
+        "5 1024 18 16384 0 0 0 0 0 0 0 0 0 0 18 16384 0 0 0 9 9",
+    )?;
+    assert!(rt; replay(rt.alloc(), &line));
+    Ok(())
+}
+
+// Page 0 of a store of one page.
+#[test]
+fn looks_up(rt: HostRuntime) -> Result<(), Fail> {
+    let line = numbers(
+        rt.alloc(),
+        "11 16 0 0 0 16 7 146 119 186 220 134 225 93 75 100 133 201 202 17 90 20 0 1 0 9 9 9 9 9 9",
+    )?;
+    assert!(rt; replay(rt.alloc(), &line));
+    Ok(())
+}
