@@ -2,7 +2,7 @@
 //
 // These are leaves for sibling crates: each asks that what is copied has room. The place goes beside the slice, so that the clause speaks of
 // the whole slice.
-ghost use Rattle.std.specs.Prelude.{◌≡◌, ◌+◌, ◌*◌, ◌/◌, ◌≤◌, length};
+ghost use Rattle.std.specs.Prelude.{◌≡◌, ◌+◌, ◌*◌, ◌/◌, ◌<◌, ◌≤◌, length};
 ghost use Rattle.std.proofs.lemmas.List.Edits.{sets};
 
 use crate::little_endian::{read_numbers, write_numbers};
@@ -16,11 +16,13 @@ pub fn copy<T: Copy>(a: &[T], b: &mut [T], at: usize)
 }
 
 // The most steps in a turn. A turn reads all its words, eight bytes each, before it writes the first, so that the compiler can join the moves.
-const TURN: usize = 32;
+//
+// So many that a page of 4,096 bytes takes three turns, and fewer than the 256 that are slower where the memory is what is waited for.
+const TURN: usize = 192;
 
 // Copies as `copy` does: eight bytes a step, and singly what is then left. Returns the count of steps, which is what the loop goes by.
 //
-// A `for` over single words takes up to half as long again on a page in the cache.
+// A `for` over single words takes up to twice as long on a page in the cache.
 pub fn copy_steps(a: &[u8], b: &mut [u8], at: usize) -> usize
     requires { at + length a.now ≤ length b.old }
     ensures { (result ≡ length a.now / 8) × (b.new ≡ sets b.old at a.now) }
@@ -32,17 +34,27 @@ pub fn copy_steps(a: &[u8], b: &mut [u8], at: usize) -> usize
         steps += copy_turn(&a[done..done + 8 * n], n, b, at + done);
     }
     let done = 8 * steps;
-    copy(&a[done..], b, at + done);
+    copy_rest(&a[done..], b, at + done);
     steps
 }
 
 // Copies n words, a turn at most, and returns the count of steps. The bytes are cut by n, so that it need not be found by a quotient again.
 fn copy_turn(a: &[u8], n: usize, b: &mut [u8], at: usize) -> usize
-    requires { (n ≤ 32) × (length a.now ≡ 8 * n) × (at + 8 * n ≤ length b.old) }
+    requires { (n ≤ 192) × (length a.now ≡ 8 * n) × (at + 8 * n ≤ length b.old) }
     ensures { (result ≡ n) × (b.new ≡ sets b.old at a.now) }
 {
     let mut room = [0u64; TURN];
     let words = &mut room[..n];
     read_numbers(a, 0, words);
     write_numbers(words, b, at)
+}
+
+// Copies fewer than eight bytes, one by one. Their count is taken as a remainder, as the compiler then sees that they are few and needs no loop.
+fn copy_rest(a: &[u8], b: &mut [u8], at: usize)
+    requires { (length a.now < 8) × (at + length a.now ≤ length b.old) }
+    ensures { b.new ≡ sets b.old at a.now }
+{
+    for i in 0..a.len() % 8 {
+        b[at + i] = a[i];
+    }
 }

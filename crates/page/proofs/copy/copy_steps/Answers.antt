@@ -29,7 +29,7 @@ returns c =
     let left = length x.a.now - done in
     let all : done + left ≡ length x.a.now = omega arith in (
       omega arith,
-      c.copy.ensures
+      c.copy_rest.ensures
           ∙ simp zero-add at (part_copied x.b.now c.loop-steps.b x.a.now 0 x.at done left (omega arith) c.loop-steps.invariant.copied)
           ∙ rw all (ap (sets x.b.now x.at) (take-length x.a.now)),
     )

@@ -11,7 +11,7 @@ pub returns : goal.returns
 returns c =
     let x = c.args in
     let e = c.write_numbers.ensures in
-    let long = length-take-le x.n (replicate 32 0) c.requires.0 in (
+    let long = length-take-le x.n (replicate 192 0) c.requires.0 in (
       e.count ∙ omega (arith, c.read_numbers.auto.table, long),
       e.bytes ∙ ap (sets x.b.now x.at) (turn_copied x.a.now _ x.n _ (λ k. omega (arith, c.type_inv.a k)) c.requires.1 long c.read_numbers.ensures),
     )
