@@ -2,7 +2,7 @@
 //
 // These are leaves for sibling crates: each asks that what is copied has room. The place goes beside the slice, so that the clause speaks of
 // the whole slice.
-ghost use Rattle.std.specs.Prelude.{◌≡◌, ◌+◌, ◌*◌, ◌/◌, ◌<◌, ◌≤◌, length};
+ghost use Rattle.std.specs.Prelude.{◌≡◌, ◌+◌, ◌-◌, ◌*◌, ◌/◌, ◌%◌, ◌≤◌, length, drop};
 ghost use Rattle.std.proofs.lemmas.List.Edits.{sets};
 
 use crate::little_endian::{read_numbers, write_numbers};
@@ -33,8 +33,7 @@ pub fn copy_steps(a: &[u8], b: &mut [u8], at: usize) -> usize
         let n = ((a.len() - done) / 8).min(TURN);
         steps += copy_turn(&a[done..done + 8 * n], n, b, at + done);
     }
-    let done = 8 * steps;
-    copy_rest(&a[done..], b, at + done);
+    copy_rest(a, b, at);
     steps
 }
 
@@ -49,12 +48,15 @@ fn copy_turn(a: &[u8], n: usize, b: &mut [u8], at: usize) -> usize
     write_numbers(words, b, at)
 }
 
-// Copies fewer than eight bytes, one by one. Their count is taken as a remainder, as the compiler then sees that they are few and needs no loop.
+// Copies what is left of `a` behind its whole words, byte by byte. It takes all of `a`: by the remainder the compiler sees that the bytes are
+// fewer than eight, and needs no loop.
 fn copy_rest(a: &[u8], b: &mut [u8], at: usize)
-    requires { (length a.now < 8) × (at + length a.now ≤ length b.old) }
-    ensures { b.new ≡ sets b.old at a.now }
+    requires { at + length a.now ≤ length b.old }
+    ensures { b.new ≡ sets b.old (at + (length a.now - length a.now % 8)) (drop (length a.now - length a.now % 8) a.now) }
 {
-    for i in 0..a.len() % 8 {
-        b[at + i] = a[i];
+    let rest = a.len() % 8;
+    let done = a.len() - rest;
+    for i in 0..rest {
+        b[at + done + i] = a[done + i];
     }
 }
