@@ -7,15 +7,15 @@ use mathlib.Core.Path.{◌≡◌, ap, sym, ◌∙◌}
 use mathlib.Core.Bool.{◌&&◌}
 use mathlib.Core.List.{List, [], ◌++◌, append-nil, Memᴰ}
 use lib.Dec.{leb, eqb}
-use lib.ListN.{length, get_or, take, drop, length-append, length-drop}
-use lib.Seq.{sets, get_or-append-add, length-take-le, take_at, drop_at}
+use lib.ListN.{length, get_or, take, drop, length-append}
+use lib.Seq.{sets, get_or-append-add, take_at, drop_at}
 use borrow.Author.Tests.{le-leb, lt-leb, leb-true, eq-eqb}
 use Rattle.refusal.specs.Outcome.{answer, refused}
 use Rattle.refusal.specs.Effect.{effect}
 use Rattle.laws.proofs.Tests.{and-true}
 use Rattle.refusal.proofs.OutcomeLaws.{check_answer, with_answer_answer, with_answer_refused}
 use Rattle.page.specs.Bytes.{bytes_of, numbers_at, bytes_of_all}
-use Rattle.laws.proofs.SetsLaws.{sets-append, sets_whole}
+use Rattle.laws.proofs.SetsLaws.{sets-append}
 use Rattle.page.proofs.BytesLaws.{number_at_append-left, numbers_at_same, number_at_bytes_of, numbers_at-bytes_of_all, length_bytes_of, length-bytes_of_all}
 use Rattle.overflow.specs.Totals.{max_size}
 use Rattle.overflow.specs.Cells.{Cell, cell_with, hash_size, cell_header, cell_bytes, encode_cell, encode_cell_into, cell_size, cell_count, cell_of, decode_cell, CellCounts, cell_counts_of, cell_counts, decode_cell_into}
@@ -100,12 +100,11 @@ module _ (s : ℕ) (b : List ℕ) where
     into_refused e = rw (not_decoded e)
 
     -- a cell's hash is put there, and takes all places
-    pub into_decoded : {k : CellCounts} → answer k ≡ cell_counts s b → length hash ≡ hash_size → {h : List ℕ} → h ≡ take hash_size (drop 8 b) → effect (answer k) h ≡ decode_cell_into s b hash
+    pub into_decoded : {k : CellCounts} → answer k ≡ cell_counts s b → {h : List ℕ} → h ≡ sets hash 0 (take hash_size (drop 8 b)) → effect (answer k) h ≡ decode_cell_into s b hash
     unfolding decode_cell_into cell_of
-    into_decoded e whole f =
+    into_decoded e f =
         let d = decoding e in
-        let long : length (take hash_size (drop 8 b)) ≡ hash_size = length-take-le hash_size (drop 8 b) (omega (arith, d.long, length-drop 8 b)) in
-        rw (d.read, ← d.counts, f, sets_whole hash (take hash_size (drop 8 b)) (omega arith))
+        rw (d.read, ← d.counts, f)
 
 -- ---- what is encoded is decoded again
 

@@ -5,7 +5,7 @@ ghost use Rattle.overflow.specs.Stored.{written_outcome};
 ghost use Rattle.overflow.specs.Cells.{cell_with, encode_cell_into, decoded_outcome, cell_counts, decode_cell_into};
 
 use crate::total::max_overflow_value_size;
-use page::copy::copy;
+use page::copy::copy_steps;
 use page::little_endian::{LittleEndian, write_numbers};
 use page::size::PageSize;
 use refusal::Refusal;
@@ -36,7 +36,7 @@ pub fn encode_cell(
         return Err(Refusal::Room);
     }
     size.write_at(cell, 0);
-    copy(hash, cell, 8);
+    copy_steps(hash, cell, 8);
     write_numbers(numbers, cell, 40);
     Ok(length)
 }
@@ -51,7 +51,7 @@ pub fn decode_cell(
     ensures { effect (decoded_outcome result) hash.new ≡ decode_cell_into page_size cell.now hash.old }
 {
     let counts = cell_counts(page_size, cell)?;
-    hash.copy_from_slice(&cell[8..40]);
+    copy_steps(&cell[8..40], hash, 0);
     Ok(counts)
 }
 
