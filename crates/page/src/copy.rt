@@ -1,7 +1,7 @@
 // Bytes and numbers carried from one slice to another.
 //
-// These are leaves for sibling crates: each asks that what is copied has room. The place goes beside the slice, so that the clause speaks of
-// the whole slice.
+// These are leaves for sibling crates: each asks that what is copied has room. The place in `b` goes beside the slice, so that the contract
+// speaks of all of `b`.
 ghost use Rattle.std.specs.Prelude.{◌≡◌, ◌+◌, ◌-◌, ◌*◌, ◌/◌, ◌%◌, ◌≤◌, length, drop};
 ghost use Rattle.std.proofs.lemmas.List.Edits.{sets};
 
@@ -15,12 +15,12 @@ pub fn copy<T: Copy>(a: &[T], b: &mut [T], at: usize)
     b[at..at + a.len()].copy_from_slice(a);
 }
 
-// The most steps in a turn. A turn reads all its words, eight bytes each, before it writes the first, so that the compiler can join the moves.
-//
-// So many that a page of 4,096 bytes takes three turns, and fewer than the 256 that are slower where the memory is what is waited for.
+// The most steps in a turn, which `copy_turn` asks for. A turn reads all its words, eight bytes each, before it writes the first, so that the
+// compiler can join the moves. By 192 a page of 4,096 bytes takes three turns. docs/PERFORMANCE.md has other turns beside it.
 const TURN: usize = 192;
 
-// Copies as `copy` does: eight bytes a step, and singly what is then left. Returns the count of steps, which is what the loop goes by.
+// Does what `copy` does, in steps of eight bytes, and goes singly over what is then left, at most seven. Returns the count of steps, which is
+// what the loop goes by.
 //
 // A `for` over single words takes up to twice as long on a page in the cache.
 pub fn copy_steps(a: &[u8], b: &mut [u8], at: usize) -> usize
@@ -37,7 +37,7 @@ pub fn copy_steps(a: &[u8], b: &mut [u8], at: usize) -> usize
     steps
 }
 
-// Copies n words, a turn at most, and returns the count of steps. The bytes are cut by n, so that it need not be found by a quotient again.
+// Copies n words, a turn at most, and returns the count of steps. The caller gives n, so that it is not divided out of the length again.
 fn copy_turn(a: &[u8], n: usize, b: &mut [u8], at: usize) -> usize
     requires { (n ≤ 192) × (length a.now ≡ 8 * n) × (at + 8 * n ≤ length b.old) }
     ensures { (result ≡ n) × (b.new ≡ sets b.old at a.now) }
@@ -48,8 +48,8 @@ fn copy_turn(a: &[u8], n: usize, b: &mut [u8], at: usize) -> usize
     write_numbers(words, b, at)
 }
 
-// Copies what is left of `a` behind its whole words, byte by byte. It takes all of `a`: by the remainder the compiler sees that the bytes are
-// fewer than eight, and needs no loop.
+// Copies the bytes of `a` behind its whole words, one by one. It takes all of `a`: from the remainder the compiler sees that the bytes are fewer
+// than eight, and writes them out without a loop.
 fn copy_rest(a: &[u8], b: &mut [u8], at: usize)
     requires { at + length a.now ≤ length b.old }
     ensures { b.new ≡ sets b.old (at + (length a.now - length a.now % 8)) (drop (length a.now - length a.now % 8) a.now) }

@@ -108,8 +108,8 @@ pub fn read_numbers<T: LittleEndian>(b: &[u8], at: usize, table: &mut [T])
     }
 }
 
-// Writes the numbers of the table to the bytes from place `at` on, and answers their count. Each raises it when it is written: `copy_steps` tells
-// its steps by it, and document 02 asks for a count that the steps raise.
+// Writes the numbers of the table to the bytes from place `at` on, and answers their count. Each raises it when it is written, as it is the count of
+// steps that `copy_steps` tells.
 pub fn write_numbers<T: LittleEndian>(table: &[T], b: &mut [u8], at: usize) -> usize
     requires { at + T.WIDTH * length table.now ≤ length b.old }
     ensures count { result ≡ length table.now }

@@ -1,12 +1,11 @@
-use Rattle.std.proofs.Common.{◌≡◌, ℕ, ◌+◌, ◌*◌, ◌-◌, length, replicate, take, drop}
+use Rattle.std.proofs.Common.{◌≡◌, ℕ, ◌+◌, ◌*◌, ◌-◌, ◌%◌, length, replicate}
 use Rattle.std.proofs.lemmas.List.Edits.{sets}
 use Rattle.page.proofs.fill.clear_part.Goals as goal
 use mathlib.Core.Path.{◌∙◌, ap}
 use native.Mathlib.Omega.{arith}
-use lib.ListN.{length-drop, length-replicate}
-use lib.Seq.{length-take-le}
+use lib.ListN.{length-replicate}
 use native.Mathlib.Nat.{zero-add}
-use Rattle.laws.proofs.SetsLaws.{part-written, sets_whole, zeros_joined}
+use Rattle.laws.proofs.SetsLaws.{sets_whole, zeros_joined}
 use Rattle.page.proofs.BytesLaws.{bytes_of_zero}
 
 pub loop-i-preserved : goal.loop-i-preserved
@@ -21,13 +20,12 @@ pub returns : goal.returns
 returns c =
     let n = length c.args.b.now in
     let done = 8 * c.loop-i.steps in
-    let left = length c.loop-i.b - done in
-    let long : length (take left (drop done c.loop-i.b)) ≡ left = length-take-le left (drop done c.loop-i.b) (omega (arith, length-drop done c.loop-i.b)) in
-    let zeros : c.fill.new.self ≡ replicate left 0 = c.fill.ensures.after (λ y e. e) ∙ ap (λ (k : ℕ). replicate {A = ℕ} k 0) long in
+    let left = n % 8 in
+    let words : n - left ≡ done = omega arith in
     let all : done + left ≡ n = omega arith in
     let first = rw (← c.loop-i.invariant.counted) at c.loop-i.invariant.cleared in (
       omega arith,
-      rw zeros (part-written c.loop-i.b done left (replicate left 0) (length-replicate {A = ℕ} left 0) (omega arith))
+      rw (c.loop-i.auto.b, words) at c.clear_rest.ensures
           ∙ rw (zero-add, all) at (zeros_joined c.args.b.now c.loop-i.b 0 done left first)
           ∙ sets_whole c.args.b.now (replicate n 0) (length-replicate {A = ℕ} n 0),
     )
