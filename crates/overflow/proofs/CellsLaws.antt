@@ -99,7 +99,7 @@ module _ (s : ℕ) (b : List ℕ) where
     unfolding decode_cell_into
     into_refused e = rw (not_decoded e)
 
-    -- a cell's hash is put there, and takes all places
+    -- a cell's hash is put there
     pub into_decoded : {k : CellCounts} → answer k ≡ cell_counts s b → {h : List ℕ} → h ≡ sets hash 0 (take hash_size (drop 8 b)) → effect (answer k) h ≡ decode_cell_into s b hash
     unfolding decode_cell_into cell_of
     into_decoded e f =
