@@ -64,9 +64,9 @@ record: lib sized
 cuts: lib sized
 	@$(ORACLE) -p cuts -- $(ARGS)
 
-# The library and the Rust, timed in turn; with BEFORE=COMMIT also the library of that commit.
+# The library and the Rust, timed in turn; with BEFORE=COMMIT also the library of that commit, and with PATCH=FILE with that patch.
 bench: lib sized
-	@$(if $(BEFORE),tools/before $(BEFORE))
+	@$(if $(BEFORE),tools/before $(BEFORE) $(PATCH))
 	@$(ORACLE) -p bench $(if $(BEFORE),--features before) -- $(ARGS)
 
 # The instructions of one call on each side, counted by callgrind.
