@@ -145,8 +145,9 @@ fn unfit(entry: u32, count: u32) -> u32
 }
 
 // Whether the first n entries of a list page are numbers of pages of a store of `count` pages, and none is 0. The page comes whole, as its
-// entries are read at their places. All are counted that are not: without a way out in its middle the loop becomes vector code. With `all` in its place it takes two and a half times
-// as long, with `filter` and `count` almost four times; `map` and `sum` are as fast, but the check does not bound the sum.
+// entries are read at their places. All are counted that are not: without a way out in its middle the loop becomes vector code. With `all` in
+// its place it takes two and a half times as long, with `filter` and `count` almost four times; `map` and `sum` are as fast, but the check
+// does not bound the sum.
 #[tactic(auto, using(crate::proofs::ReadingLaws::entries_more), unfolding(crate::specs::Reading::all_entries_fit, page::specs::Bytes::numbers_at))]
 fn entries_fit(page: &[u8], n: usize, count: u32) -> bool
     requires { (n < 65536) × (6 + 4 * n ≤ length page.now) }

@@ -15,8 +15,8 @@ pub fn copy<T: Copy>(a: &[T], b: &mut [T], at: usize)
     b[at..at + a.len()].copy_from_slice(a);
 }
 
-// The most steps in a turn, which `copy_turn` asks for. A turn reads all its words, eight bytes each, before it writes the first, so that the
-// compiler can join the moves. By 192 a page of 4,096 bytes takes three turns. docs/PERFORMANCE.md has other turns beside it.
+// The most steps in a turn; `copy_turn` asks for no more. A turn reads all its words, eight bytes each, before it writes the first, so that the
+// compiler can join the moves. With 192 a page of 4,096 bytes takes three turns; docs/PERFORMANCE.md has other turns beside it.
 const TURN: usize = 192;
 
 // Does what `copy` does, in steps of eight bytes, and goes singly over what is then left, at most seven. Returns the count of steps, which is

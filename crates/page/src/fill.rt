@@ -6,8 +6,8 @@ ghost use Rattle.std.proofs.lemmas.List.Edits.{sets};
 
 use crate::little_endian::LittleEndian;
 
-// Makes the bytes from `from` up to `to`, which is left, zero: in steps of eight bytes, and then singly, at most seven. Returns the count of
-// steps. Where `to` is at or before `from` there is nothing to do, and the count is 0.
+// Makes the bytes from place `from` on, and before place `to`, zero: in steps of eight bytes, and then singly, at most seven. Returns the count
+// of steps. Where `to` is at or before `from` there is nothing to do, and the count is 0.
 pub fn clear_steps(b: &mut [u8], from: usize, to: usize) -> usize
     requires { to ≤ length b.old }
     ensures { (result ≡ (to - from) / 8) × (b.new ≡ sets b.old from (replicate (to - from) 0)) }

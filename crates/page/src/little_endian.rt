@@ -1,7 +1,7 @@
 // Little-endian numbers in byte slices.
 //
-// These are leaves for sibling crates: each but `nth_number` asks that its bytes lie within the slice. They take a place beside the slice, as a slice cut at the
-// place would be tested once more.
+// These are leaves for sibling crates: each but `nth_number` asks that its bytes lie within the slice. They take a place beside the slice, as a
+// slice cut at the place would be tested once more.
 ghost use Rattle.std.specs.Prelude.{◌≡◌, ℕ, ◌+◌, ◌*◌, ◌≤◌, length, map};
 ghost use Rattle.std.proofs.lemmas.List.Edits.{sets};
 ghost use Rattle.page.specs.Bytes.{number_at, bytes_of, numbers_at, bytes_of_all, nth_within};
