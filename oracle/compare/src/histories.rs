@@ -42,11 +42,17 @@ pub const VALUES: [&str; 7] = [
     "total in histories",
 ];
 
-/// The replies that have to be reached, by report: those of a host that lends too little or frees
-/// what is none.
+/// The replies that have to be reached, and no others, by report: those of a host that lends too
+/// little or frees what is none.
 const SAVE_REPLIES: [&[u32]; 3] = [
     &[0],
-    &[0, save_model::TABLES, save_model::FREED, save_model::BUFFER],
+    &[
+        0,
+        save_model::STATE,
+        save_model::TABLES,
+        save_model::FREED,
+        save_model::BUFFER,
+    ],
     &[0],
 ];
 const VALUE_REPLIES: [&[u32]; 7] = [

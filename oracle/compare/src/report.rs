@@ -83,11 +83,18 @@ impl Report {
         class.or_insert_with(|| (0, text())).0 += 1;
     }
 
-    /// Adds what was reached, and a disagreement for each of these replies that was not.
+    /// Adds what was reached, and a disagreement for each of these replies that was not, and for each
+    /// other that was.
     pub fn reached(&mut self, numbers: &[u32]) {
         for number in numbers {
             if !self.replies.contains_key(number) {
                 self.disagree(u64::MAX, || format!("{number} was never reached"));
+            }
+        }
+        let reached: Vec<u32> = self.replies.keys().copied().collect();
+        for number in reached {
+            if !numbers.contains(&number) {
+                self.disagree(u64::MAX, || format!("{number} is never to be expected"));
             }
         }
         self.note(format!("replies by number: {}", text_of(&self.replies)));

@@ -89,7 +89,7 @@ pub struct Comparison<'a> {
     kinds: BTreeMap<String, (u64, [u64; KINDS.len()])>,
 }
 
-/// The replies that have to be reached, by report.
+/// The replies that have to be reached, and no others, by report.
 const REPLIES: [&[u32]; 3] = [
     &[0, model::STATE, model::LIMIT],
     &[
@@ -140,8 +140,8 @@ impl<'a> Comparison<'a> {
         states::each::<R>(self, form, seed, saves)
     }
 
-    /// Adds what was reached, and a disagreement for each of these replies and each kind that was
-    /// not.
+    /// Adds what was reached, and a disagreement if it is not just these replies, and for each kind
+    /// that was not.
     pub fn finish(mut self, replies: [&[u32]; 3]) -> [Report; 3] {
         for (report, numbers) in self.reports.iter_mut().zip(replies) {
             report.reached(numbers);

@@ -102,7 +102,7 @@ pub struct Comparison<'a> {
     groups: BTreeMap<String, [u64; 3]>,
 }
 
-/// The replies that have to be reached, by report.
+/// The replies that have to be reached, and no others, by report.
 const REPLIES: [&[u32]; 7] = [
     &[0, model::BUFFER, model::SIZE, model::INDEX],
     &[0, model::SIZE, model::ROOM],
@@ -186,7 +186,7 @@ impl<'a> Comparison<'a> {
         self.at::<R>(form, extent, seed, cases)
     }
 
-    /// Adds what was reached, and a disagreement for each of these replies that was not.
+    /// Adds what was reached, and a disagreement if it is not just these replies.
     pub fn finish(mut self, replies: [&[u32]; 7]) -> [Report; 7] {
         for (report, numbers) in self.reports.iter_mut().zip(replies) {
             report.reached(numbers);
