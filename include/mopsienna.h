@@ -46,7 +46,8 @@ enum {
     MOPSIENNA_MISSING = 15,    /* a page that lies past the store */
     MOPSIENNA_VALUE_PAGE = 16, /* a value page that claims more than its body */
     MOPSIENNA_NUMBERS = 17,    /* the numbers found are not as many as the total */
-    MOPSIENNA_BYTES = 18       /* the bytes found are not as many as the size */
+    MOPSIENNA_BYTES = 18,      /* the bytes found are not as many as the size */
+    MOPSIENNA_EMPTY_PAGE = 25  /* a value page that has no numbers and no bytes */
 };
 
 /* The largest page number that a store grows for, and the largest bump. */
@@ -172,7 +173,8 @@ uint32_t mopsienna_total(uint64_t size, uint64_t out[8]);
  *
  * A value page has the count of its numbers in bytes 0-1, the count of its value bytes in bytes 2-3,
  * then the numbers, 4 bytes each, then the value bytes; all little-endian. The numbers of the pages
- * after the 15th fill the pages in order, up to 1,023 each, and value bytes take the room left.
+ * after the 15th fill the pages in order, up to 1,023 each, and value bytes take the room left. So
+ * each page has a number or a byte, and a page with neither is refused when it is read (25).
  *
  * A cell has the value's size in its first 8 bytes, then a hash of 32 bytes, which is carried and not
  * looked at, then the numbers of the first pages, 15 at most.
@@ -223,14 +225,15 @@ uint32_t mopsienna_decode_cell(const uint8_t *cell, size_t cell_len, uint8_t has
 /*
  * Reads the value of a cell. Its `total` pages are walked in the order in which their numbers are
  * found: those of the cell, and behind them those of each page. Page 0 is walked as any other. Every
- * chain of pages that has `total` numbers and `size` bytes in the end is read, whoever wrote it.
+ * chain that has `total` numbers and `size` bytes in the end, and on each page a number or a byte, is
+ * read, whoever wrote it.
  *
  *   out[0]  the size: value[0 .. size] holds the value
  *   out[1]  how many numbers were found, which is the total: numbers[0 .. total] holds them
  *
  * The other places of both stay as they were. A refusal leaves `value` as it was. Refusals 14 to 18
- * leave in `numbers` the first `total` of those that were found before, and none from the page that
- * was refused; the other refusals leave it as it was.
+ * and 25 leave in `numbers` the first `total` of those that were found before, and none from the page
+ * that was refused; the other refusals leave it as it was.
  *
  * Refusals, in this order:
  *   12  the cell has fewer than 44 bytes, or no multiple of 4
@@ -240,6 +243,7 @@ uint32_t mopsienna_decode_cell(const uint8_t *cell, size_t cell_len, uint8_t has
  *   14  no number is known for the page
  *   15  the page lies past the store
  *   16  the page's numbers and bytes do not fit its 4,092 bytes
+ *   25  the page has no numbers and no bytes
  * and behind them all
  *   17  the numbers found are not as many as the total
  *   18  the bytes found are not as many as the size
@@ -250,17 +254,18 @@ uint32_t mopsienna_read_value(const uint8_t *cell, size_t cell_len, const uint8_
 
 /*
  * Collects the numbers of the pages of a cell's value, so that they can be freed. They are found as
- * in mopsienna_read_value, but the walk ends with the first page that has value bytes: where
- * mopsienna_write_value_page made the pages, those behind it have no numbers. A value that
- * mopsienna_read_value reads, and that has numbers behind that page, gets 17 here.
+ * in mopsienna_read_value, but the walk ends with the first page that has value bytes, and no page
+ * behind it is looked at: where mopsienna_write_value_page made the pages, those have no numbers. A
+ * value that mopsienna_read_value reads, and that has numbers behind that page, gets 17 here.
  *
  *   out[0]  how many numbers were found, which is the total: numbers[0 .. total] holds them
  *
- * The other places of `numbers` stay as they were. Refusals 14 to 17 leave in it the first `total` of
- * the numbers that were found before, and none from the page that was refused; the other refusals
- * leave it as it was.
+ * The other places of `numbers` stay as they were. Refusals 15 to 17 and 25 leave in it the first
+ * `total` of the numbers that were found before, and none from the page that was refused; the other
+ * refusals leave it as it was.
  *
- * Refusals: those of mopsienna_read_value, without 18 and without a value buffer in 13.
+ * Refusals: those of mopsienna_read_value, without 18 and without a value buffer in 13. 14 does not
+ * occur: the walk goes on behind pages without bytes only, and each of these has a number.
  */
 uint32_t mopsienna_delete_value(const uint8_t *cell, size_t cell_len, const uint8_t *store,
                                 size_t store_len, uint32_t *numbers, size_t numbers_len,

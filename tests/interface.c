@@ -221,11 +221,12 @@ static void write_value(void) {
 }
 
 /* Makes a read and a delete of the cell's first bytes over this much of the store, each expected to
- * return the same; `index` is the value of refusals 14 to 16. */
+ * return the same; `index` is the value of refusals 14 to 16 and 25. */
 static void walk(const char *call, size_t cell_len, size_t store_len, uint32_t status,
                  uint64_t index) {
     uint64_t out[8];
-    int valued = status >= MOPSIENNA_UNKNOWN && status <= MOPSIENNA_VALUE_PAGE;
+    int valued = (status >= MOPSIENNA_UNKNOWN && status <= MOPSIENNA_VALUE_PAGE) ||
+                 status == MOPSIENNA_EMPTY_PAGE;
     fill(out);
     memset(read_back, 0xA5, sizeof read_back);
     uint32_t got = mopsienna_read_value(cell, cell_len, store, store_len, found, TOTAL + 2,
@@ -235,6 +236,36 @@ static void walk(const char *call, size_t cell_len, size_t store_len, uint32_t s
     fill(out);
     got = mopsienna_delete_value(cell, cell_len, store, store_len, found, TOTAL + 2, out);
     expect(call, got, out, status, valued, &index);
+}
+
+/* Empties the first page of the value, and then the last one, which a delete does not come to, since
+ * the first page has bytes. */
+static void empty_pages(void) {
+    uint8_t first[4], last[4];
+    memcpy(first, store + PAGE * FIRST, 4);
+    memcpy(last, store + PAGE * (FIRST + 15), 4);
+
+    memset(store + PAGE * FIRST, 0, 4);
+    memset(found, 0xA5, sizeof found);
+    walk("an empty first page", 100, STORE, MOPSIENNA_EMPTY_PAGE, 0);
+    check("the cell's numbers", memcmp(found, numbers, 15 * 4) == 0 && found[15] == FILLER);
+    memcpy(store + PAGE * FIRST, first, 4);
+
+    uint64_t out[8];
+    const uint64_t fifteen = 15, deleted = TOTAL;
+    memset(store + PAGE * (FIRST + 15), 0, 4);
+    memset(found, 0xA5, sizeof found);
+    memset(read_back, 0xA5, sizeof read_back);
+    fill(out);
+    uint32_t got = mopsienna_read_value(cell, 100, store, STORE, found, TOTAL + 2, read_back,
+                                        sizeof read_back, out);
+    expect("an empty last page", got, out, MOPSIENNA_EMPTY_PAGE, 1, &fifteen);
+    check("all numbers", memcmp(found, numbers, sizeof numbers) == 0 && found[TOTAL] == FILLER);
+    check("no byte of the value", all(read_back, 0, sizeof read_back, 0xA5));
+    fill(out);
+    got = mopsienna_delete_value(cell, 100, store, STORE, found, TOTAL + 2, out);
+    expect("a delete that ends before it", got, out, 0, 1, &deleted);
+    memcpy(store + PAGE * (FIRST + 15), last, 4);
 }
 
 static void values(void) {
@@ -286,6 +317,7 @@ static void values(void) {
     store[PAGE * FIRST + 2] += 1;
     walk("a page that claims too much", 100, STORE, MOPSIENNA_VALUE_PAGE, 0);
     store[PAGE * FIRST + 2] -= 1;
+    empty_pages();
 
     /* A number more than there are pages, and a byte less than there should be. */
     memcpy(cell + 100, cell + 40, 4);

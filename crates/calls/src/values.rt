@@ -61,7 +61,7 @@ pub fn decode_cell(page_size: PageSize, cell: &[u8], hash: &mut [u8; 32], out: &
     report(overflow::cell::decode_cell(page_size, cell, hash), out)
 }
 
-// out: size, numbers found. Refusals 14, 15 and 16: the index in the walk.
+// out: size, numbers found. Refusals 14, 15, 16 and 25: the index in the walk.
 pub fn read_value(
     page_size: PageSize,
     cell: &[u8],
@@ -78,7 +78,7 @@ pub fn read_value(
     )
 }
 
-// out: numbers found. Refusals 14, 15 and 16: the index in the walk.
+// out: numbers found. Refusals 15, 16 and 25: the index in the walk.
 pub fn delete_value(
     page_size: PageSize,
     cell: &[u8],

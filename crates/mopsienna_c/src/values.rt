@@ -38,7 +38,7 @@ pub extern "C" fn mopsienna_decode_cell(cell: &[u8], hash: &mut [u8; 32], out: &
     calls::values::decode_cell(PageSize::standard(), cell, hash, out)
 }
 
-// out: size, numbers found. Refusals 14, 15 and 16: the index in the walk.
+// out: size, numbers found. Refusals 14, 15, 16 and 25: the index in the walk.
 #[unsafe(no_mangle)]
 pub extern "C" fn mopsienna_read_value(
     cell: &[u8],
@@ -52,7 +52,7 @@ pub extern "C" fn mopsienna_read_value(
     calls::values::read_value(PageSize::standard(), cell, store, numbers, value, out)
 }
 
-// out: numbers found. Refusals 14, 15 and 16: the index in the walk.
+// out: numbers found. Refusals 15, 16 and 25: the index in the walk.
 #[unsafe(no_mangle)]
 pub extern "C" fn mopsienna_delete_value(
     cell: &[u8],

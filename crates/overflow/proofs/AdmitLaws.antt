@@ -3,7 +3,7 @@
 use Prim.Native.Nat.{ℕ, ◌+◌, ◌<◌, ◌≤◌}
 use mathlib.Core.Path.{◌≡◌, refl, sym, ◌∙◌, ap}
 use mathlib.Core.Logic.{◌≢◌}
-use mathlib.Core.Bool.{Bool, ◌&&◌}
+use mathlib.Core.Bool.{Bool, true, ◌&&◌}
 use mathlib.Core.List.{List, []}
 use native.Mathlib.Omega.{arith}
 use borrow.Author.Tests.{le-leb, lt-leb, leb-true}
@@ -20,6 +20,15 @@ use Rattle.overflow.specs.Steps.{needs_of, admitted_needs}
 use Rattle.overflow.specs.declared.cell.ValueCounts.{ValueCounts}
 use Rattle.overflow.proofs.TotalsLaws.{total_few}
 use Rattle.overflow.proofs.CellsLaws.{Decoding, decoded, not_decoded}
+
+-- a cell that is admitted is the one that was read, and there is room for it
+pub admitted_decoded : (s : ℕ) (room : Cell → Bool) (cell : List ℕ) {c : Cell} → admitted s room cell ≡ answer c → (decode_cell s cell ≡ answer c) × (room c ≡ true)
+unfolding admitted
+admitted_decoded s room cell e =
+    let x = with_answer_answer (λ c. check (leb 1 c.size) 10 [] (check (room c) 13 [] (answer c))) (decode_cell s cell) e in
+    let y = check_answer (leb 1 x.0.size) 10 [] (check (room x.0) 13 [] (answer x.0)) x.2 in
+    let z = check_answer (room x.0) 13 [] (answer x.0) y.1 in
+    (x.1 ∙ z.1, ap room (sym (unanswer z.1)) ∙ z.0)
 
 module _ (s : ℕ) (cell : List ℕ) (numbers bytes : ℕ) where
   -- room for so many numbers and bytes
@@ -72,20 +81,17 @@ module _ (s : ℕ) (cell : List ℕ) (numbers bytes : ℕ) where
     pub bytes_room : needs.size ≤ bytes
 
   pub admission : {needs : ValueCounts} → IsPageSize s → answer needs ≡ admitted_needs s numbers bytes cell → Admission needs
-  unfolding admitted_needs admitted
+  unfolding admitted_needs
   admission {needs} page e =
       let w = with_answer_answer (λ c. answer (needs_of s c)) (admitted s room cell) (sym e) in
-      let x = with_answer_answer (λ c. check (leb 1 c.size) 10 [] (check (room c) 13 [] (answer c))) (decode_cell s cell) w.1 in
-      let d = decoded s cell x.1 in
-      let y = check_answer (leb 1 x.0.size) 10 [] (check (room x.0) 13 [] (answer x.0)) x.2 in
-      let z = check_answer (room x.0) 13 [] (answer x.0) y.1 in
-      let cell-is : w.0 ≡ cell_of cell = sym (unanswer z.1) ∙ d.1 in
-      let needs_are : needs_of s (cell_of cell) ≡ needs = ap (needs_of s) (sym cell-is) ∙ unanswer w.2 in
+      let a = admitted_decoded s room cell w.1 in
+      let d = decoded s cell a.0 in
+      let needs_are : needs_of s (cell_of cell) ≡ needs = ap (needs_of s) (sym d.1) ∙ unanswer w.2 in
       let size_is : (cell_of cell).size ≡ needs.size = ap (λ (n : ValueCounts). n.size) needs_are in
       let total_is : total_pages s (cell_of cell).size ≡ needs.numbers = ap (λ (n : ValueCounts). n.numbers) needs_are in
-      let both = and-true (numbers_room s numbers (cell_of cell)) (bytes_room bytes (cell_of cell)) (ap room (sym d.1) ∙ z.0) in
+      let both = and-true (numbers_room s numbers (cell_of cell)) (bytes_room bytes (cell_of cell)) (ap room (sym d.1) ∙ a.1) in
       record {
-        is = w.1 ∙ ap answer cell-is;
+        is = w.1 ∙ ap answer d.1;
         needs_are = needs_are;
         long = omega (arith, d.0.long);
         few = omega (arith, total_few (cell_of cell).size page d.0.few, total_is);

@@ -10,7 +10,8 @@ use Rattle.refusal.specs.Outcome.{answer}
 use Rattle.page.specs.Pages.{page_count, page_at}
 use Rattle.laws.proofs.PlacesLaws.{get_d-mem}
 use Rattle.overflow.specs.Reading.{in_store, Found, with_page, ended, walk}
-use Rattle.overflow.proofs.WalkLaws.{walk_page, walk_stepped, store_page, store_answer, walk_visited}
+use Rattle.overflow.proofs.ParseLaws.{store_page, store_answer}
+use Rattle.overflow.proofs.WalkLaws.{walk_page, walk_stepped, walk_visited}
 
 module _ (s : ℕ) (store more : List ℕ) (longer : page_count s store ≤ page_count s more) where
   pub walk_local : (left i : ℕ) (f g : Found) → walk s (in_store s store) false left i f ≡ ended g
@@ -25,4 +26,4 @@ module _ (s : ℕ) (store more : List ℕ) (longer : page_count s store ≤ page
       let a = store_answer s store i p w.from in
       let found : Memᴰ p g.numbers = subst (Memᴰ p) (sym v.numbers) (mathlib.Core.List.Memᴰ.append_left v.rest (get_d-mem f.numbers i w.inside)) in
       let there : in_store s more i p ≡ answer w.page = store_page s more i p (omega (arith, a.0)) ∙ ap answer (same p found a.0 ∙ a.1) in
-      walk_page s (in_store s more) false left i f w.inside there w.fits ∙ walk_local left (suc i) (with_page f w.page) g w.rest same
+      walk_page s (in_store s more) false left i f w.inside there w.fits w.some ∙ walk_local left (suc i) (with_page f w.page) g w.rest same

@@ -8,7 +8,7 @@ use native.Mathlib.Decide.{dec_lt}
 use native.Mathlib.Nat.{zero-add, sub-zero}
 use native.Mathlib.Numerals.{add-one}
 use native.Mathlib.Omega.{arith}
-use borrow.Author.Tests.{le-leb, lt-leb, le-ltb, lt-ltb}
+use borrow.Author.Tests.{le-ltb, lt-ltb}
 use lib.Dec.{leb, ltb}
 use lib.ListN.{length, get_or, take, drop, length-append, length-take, get_or-append}
 use lib.Seq.{sets, length-sets, sets-eq, take_all, take-append-le, take-append-add, get_or-take}
@@ -16,19 +16,14 @@ use Rattle.refusal.specs.Outcome.{Outcome, answer, refused, check}
 use Rattle.refusal.specs.Effect.{Effect, effect, leaves}
 use Rattle.refusal.proofs.OutcomeLaws.{check_answer}
 use Rattle.page.specs.Bytes.{numbers_at}
-use Rattle.page.specs.PageSize.{IsPageSize}
-use Rattle.page.specs.Pages.{page_count, page_at}
 use Rattle.page.proofs.BytesLaws.{length-numbers_at}
-use Rattle.page.proofs.PageSizeLaws.{page_least}
 use Rattle.laws.proofs.SetsLaws.{sets-append}
-use Rattle.overflow.specs.Totals.{body}
 use Rattle.overflow.specs.ValuePages.{number_count, byte_count, value_numbers, value_bytes, numbers_within, bytes_within}
 use Rattle.overflow.specs.Cells.{cell_header, cell_count, cell_of}
 use Rattle.overflow.specs.Reading.{Source, in_store, parse_page, Found, with_page, in_cell, Walked, ended, onward, walk, table_after}
 use Rattle.overflow.specs.Steps.{visit_into, counts_with, resumed, walk_table, start_counts, walk_counts, walk_into}
 use Rattle.overflow.specs.declared.cell.ValueCounts.{ValueCounts}
-use Rattle.overflow.proofs.WithinLaws.{number_count_within, byte_count_within}
-use Rattle.overflow.proofs.WalkLaws.{Fits, Paged, length-value_numbers, length-value_bytes, fitting_numbers, fitting_bytes, parse_answer, page_long, store_page, store_paged}
+use Rattle.overflow.proofs.ParseLaws.{Fits, Paged, Parsed, length-value_numbers, length-value_bytes, fitting_numbers, fitting_bytes, parse_answer, store_paged}
 
 -- ---- a queue in a table
 
@@ -62,41 +57,31 @@ get_d_queued t xs n i fits h k =
     rw (sets-eq (take n xs) t 0 (omega arith))
     (get_or-append (take n xs) (drop (0 + length (take n xs)) t) 0 i (omega (arith, length-take n xs)) ∙ get_or-take n xs i 0 h)
 
--- ---- a page of a store, test by test, in the numbers of the code
+-- ---- one page, in the numbers of the code
 
-module _ (s : ℕ) (store : List ℕ) (total i known : ℕ) (table : List ℕ) where
-  pub visit_unknown : known ≤ i → effect (refused 14 (i ∷ [])) table ≡ visit_into s (in_store s store) total i known table
+module _ (s : ℕ) (source : Source) (total i known : ℕ) (table : List ℕ) where
+  pub visit_unknown : known ≤ i → effect (refused 14 (i ∷ [])) table ≡ visit_into s source total i known table
   unfolding visit_into
   visit_unknown h = rw (le-ltb i known h)
 
-  module _ (k : i < known) where
-    pub visit_missing : page_count s store ≤ get_or table i 0 → effect (refused 15 (i ∷ [])) table ≡ visit_into s (in_store s store) total i known table
-    unfolding visit_into parse_page in_store
-    visit_missing h = rw (lt-ltb i known k, le-ltb (get_or table i 0) (page_count s store) h)
+  pub visit_refused : i < known → {n : ℕ} {vs : List ℕ} → refused n vs ≡ parse_page s source i (get_or table i 0) → effect (refused n vs) table ≡ visit_into s source total i known table
+  unfolding visit_into
+  visit_refused h e = rw (lt-ltb i known h, ← e)
 
-    module _ (size : IsPageSize s) (inside : get_or table i 0 < page_count s store) {b : List ℕ} (is : b ≡ page_at s store (get_or table i 0))
-        {n m : ℕ} (numbers : n ≡ numbers_within b) (bytes : m ≡ bytes_within b) where
-      reaches : 4 ≤ length b
-      reaches = omega (arith, ap length is, page_long s store (get_or table i 0) inside, page_least size)
+  module _ {b : List ℕ} (e : answer b ≡ parse_page s source i (get_or table i 0)) (paged : Paged s source) {n : ℕ} (numbers : n ≡ numbers_within b) where
+    parsed : Parsed s source i (get_or table i 0) b
+    parsed = parse_answer s source i (get_or table i 0) (sym e)
 
-      numbers_are : number_count (page_at s store (get_or table i 0)) ≡ n
-      numbers_are = ap number_count (sym is) ∙ sym (numbers ∙ number_count_within b reaches)
+    numbers_are : n ≡ number_count b
+    numbers_are = numbers ∙ fitting_numbers b (paged i (get_or table i 0) b parsed.from) parsed.fits
 
-      bytes_are : byte_count (page_at s store (get_or table i 0)) ≡ m
-      bytes_are = ap byte_count (sym is) ∙ sym (bytes ∙ byte_count_within b reaches)
+    -- its numbers lie on it
+    pub visit_room : 4 + 4 * n ≤ length b
+    visit_room = omega (arith, numbers_are, paged i (get_or table i 0) b parsed.from, parsed.fits, parsed.some)
 
-      pub visit_unfit : body s < 4 * n + m → effect (refused 16 (i ∷ [])) table ≡ visit_into s (in_store s store) total i known table
-      unfolding visit_into parse_page
-      visit_unfit h = rw (lt-ltb i known k, store_page s store i (get_or table i 0) inside, numbers_are, bytes_are, lt-leb (4 * n + m) (body s) h)
-
-      module _ (fits : 4 * n + m ≤ body s) where
-        pub visit_room : 4 + 4 * n ≤ length b
-        visit_room = omega (arith, ap length is, page_long s store (get_or table i 0) inside, page_least size)
-
-        pub visit_page : {next : List ℕ} → next ≡ sets table known (take (total - known) (numbers_at 4 b 4 n)) → effect (answer b) next ≡ visit_into s (in_store s store) total i known table
-        unfolding visit_into parse_page value_numbers
-        visit_page queued =
-            rw (lt-ltb i known k, store_page s store i (get_or table i 0) inside, numbers_are, bytes_are, le-leb (4 * n + m) (body s) fits, queued, is, numbers_are)
+    pub visit_taken : i < known → {next : List ℕ} → next ≡ sets table known (take (total - known) (numbers_at 4 b 4 n)) → effect (answer b) next ≡ visit_into s source total i known table
+    unfolding visit_into value_numbers
+    visit_taken h queued = rw (lt-ltb i known h, ← e, queued, numbers_are)
 
 -- ---- the walk
 
@@ -147,13 +132,13 @@ module _ {s : ℕ} (source : Source) (paged : Paged s source) (total : ℕ) (tab
       by_test b true = refl
       by_test b false = again b
 
-      by_page : (o : Outcome (List ℕ)) → ((b : List ℕ) → o ≡ answer b → (source i (get_or f.numbers i 0) ≡ answer b) × Fits s b)
+      by_page : (o : Outcome (List ℕ)) → ((b : List ℕ) → o ≡ answer b → Parsed s source i (get_or f.numbers i 0) b)
           → let v = leaves (λ b. b) (λ b. sets (table_of f) (length f.numbers) (take (total - length f.numbers) (value_numbers b))) (table_of f) o in
           resumed resume v.outcome v.lent ≡ effect (walk_counts (onward f next o)) (table_after total table (onward f next o))
       by_page (answer b) fits =
           let p = fits b refl in
-          let long = paged i (get_or f.numbers i 0) b p.0 in
-          rw (sets_queued table f.numbers (value_numbers b) total, counts_more f b long p.1, fitting_bytes b long p.1) (by_test b (deleting && leb 1 (byte_count b)))
+          let long = paged i (get_or f.numbers i 0) b p.from in
+          rw (sets_queued table f.numbers (value_numbers b) total, counts_more f b long p.fits, fitting_bytes b long p.fits) (by_test b (deleting && leb 1 (byte_count b)))
       by_page (refused n vs) fits = refl
 
     pub table-walk : (left i : ℕ) (f : Found) → i + left ≤ total → Same left i f

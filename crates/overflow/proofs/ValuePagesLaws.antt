@@ -16,7 +16,7 @@ use Rattle.page.proofs.BytesLaws.{number_at_append-left, number_at_append_right,
 use Rattle.overflow.specs.Totals.{cell_numbers, body}
 use Rattle.overflow.specs.Layout.{numbers_before, numbers_on, bytes_before, bytes_on}
 use Rattle.overflow.specs.ValuePages.{number_count, byte_count, value_numbers, value_bytes, encode_value_page, value_page}
-use Rattle.overflow.proofs.LayoutLaws.{numbers_within_lem, bytes_within_lem, page_fits}
+use Rattle.overflow.proofs.LayoutLaws.{numbers_within_lem, bytes_within_lem, page_fits, page_nonempty}
 
 -- ---- one page
 
@@ -138,6 +138,11 @@ module _ {s total : ℕ} (page : IsPageSize s) (value numbers : List ℕ) (whole
 
   pub value_page_fits : 4 * number_count (value_page s total value numbers i) + byte_count (value_page s total value numbers i) ≤ body s
   value_page_fits = rw (number_count_value_page, byte_count_value_page) (page_fits total page (length value) i)
+
+  -- it is not empty, where one page less would not do
+  pub value_page_some : body s * total < length value + 4 * (total - cell_numbers) + body s → i < total
+      → 1 ≤ number_count (value_page s total value numbers i) + byte_count (value_page s total value numbers i)
+  value_page_some tight h = rw (number_count_value_page, byte_count_value_page) (page_nonempty total page (length value) i tight h)
 
   pub value_numbers_value_page : ((n : ℕ) → Memᴰ n numbers → n < 256 ^ 4) → value_numbers (value_page s total value numbers i) ≡ ns
   unfolding value_page

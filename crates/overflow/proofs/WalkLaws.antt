@@ -1,82 +1,30 @@
--- The walk over the pages of a value: one page, one step, and a walk that has ended.
+-- The walk over the pages of a value: one step, and a walk that has ended.
 -- A step is a case of the definition; a walk that has ended is taken apart page by page.
-use Prim.Native.Nat.{ℕ, zero, suc, ◌+◌, ◌*◌, ◌/◌, ◌<◌, ◌≤◌}
+use Prim.Native.Nat.{ℕ, zero, suc, ◌<◌, ◌≤◌}
 use mathlib.Core.Path.{◌≡◌, refl, sym, ◌∙◌, ap}
 use mathlib.Core.Bool.{Bool, false, ◌&&◌, cond}
 use mathlib.Core.List.{List, [], ◌∷◌, ◌++◌, append-nil, append_assoc}
-use native.Mathlib.Nat.{le_of_suc-le-suc, not-suc-le-zero, div-zero}
-use native.Mathlib.Decide.{dec_lt}
+use native.Mathlib.Nat.{le_of_suc-le-suc, not-suc-le-zero}
 use native.Mathlib.Omega.{arith}
-use borrow.Author.Tests.{lt-ltb, le-leb, ltb-true, leb-true}
+use borrow.Author.Tests.{lt-ltb, ltb-true}
 use lib.Dec.{leb, ltb}
-use lib.ListN.{length, get_or, take, drop, length-append, length-drop, get_or-append}
-use lib.Seq.{length-take-le, drop-cons}
-use Rattle.refusal.specs.Outcome.{Outcome, answer, refused, check}
-use Rattle.refusal.proofs.OutcomeLaws.{unanswer, check_answer, with_answer_answer}
-use Rattle.page.specs.Pages.{page_count, page_at}
-use Rattle.page.proofs.BytesLaws.{length-numbers_at}
-use Rattle.page.proofs.PagesLaws.{page_within_lem, length-page_at}
-use Rattle.overflow.specs.Totals.{body}
-use Rattle.overflow.specs.ValuePages.{number_count, byte_count, value_numbers, value_bytes, numbers_within, bytes_within}
+use lib.ListN.{length, get_or, take, drop, length-append, get_or-append}
+use lib.Seq.{drop-cons}
+use Rattle.refusal.specs.Outcome.{Outcome, answer, refused}
+use Rattle.refusal.proofs.OutcomeLaws.{check_answer}
+use Rattle.page.specs.Pages.{page_count}
+use Rattle.overflow.specs.ValuePages.{byte_count, value_numbers, value_bytes}
 use Rattle.overflow.specs.Reading.{Source, in_store, parse_page, Found, with_page, Walked, ended, onward, walk}
 use Rattle.overflow.specs.Steps.{value_bytes_of}
-use Rattle.overflow.proofs.WithinLaws.{number_count_within, number_count_past, byte_count_within, byte_count_past}
-
--- ---- one page
-
--- numbers and value bytes that fit the body of a page
-abbrev pub Fits : ℕ → List ℕ → Type 0
-Fits s b = 4 * number_count b + byte_count b ≤ body s
-
--- a source of pages of s bytes
-abbrev pub Paged : ℕ → Source → Type 0
-Paged s source = (i p : ℕ) (b : List ℕ) → source i p ≡ answer b → length b ≡ s
-
-pub length-value_numbers : (b : List ℕ) → length (value_numbers b) ≡ number_count b
-unfolding value_numbers
-length-value_numbers b = length-numbers_at 4 b 4 (number_count b)
-
--- the value bytes of a page that fits are as many as it says
-pub length-value_bytes : {s : ℕ} (b : List ℕ) → length b ≡ s → Fits s b → length (value_bytes b) ≡ byte_count b
-unfolding value_bytes
-length-value_bytes b long fits =
-    length-take-le (byte_count b) (drop (4 + 4 * number_count b) b) (omega (arith, length-drop (4 + 4 * number_count b) b))
-
--- and such a page has its header
-pub fitting_numbers : {s : ℕ} (b : List ℕ) → length b ≡ s → Fits s b → numbers_within b ≡ number_count b
-fitting_numbers b long fits = by_header (dec_lt (length b) 4)
-  where
-    by_header : Dec (length b < 4) → numbers_within b ≡ number_count b
-    by_header (yes h) = omega (arith, number_count_past b h)
-    by_header (no h) = number_count_within b (omega arith)
-
-pub fitting_bytes : {s : ℕ} (b : List ℕ) → length b ≡ s → Fits s b → bytes_within b ≡ byte_count b
-fitting_bytes b long fits = by_header (dec_lt (length b) 4)
-  where
-    by_header : Dec (length b < 4) → bytes_within b ≡ byte_count b
-    by_header (yes h) = omega (arith, byte_count_past b h)
-    by_header (no h) = byte_count_within b (omega arith)
+use Rattle.overflow.proofs.ParseLaws.{Fits, Some, parse_answer, parse_takes, store_answer}
 
 module _ (s : ℕ) (source : Source) where
-  -- a page that the walk accepts
-  pub parse_answer : (i p : ℕ) {b : List ℕ} → parse_page s source i p ≡ answer b → (source i p ≡ answer b) × Fits s b
-  unfolding parse_page
-  parse_answer i p e =
-      let w = with_answer_answer (λ b. check (leb (4 * number_count b + byte_count b) (body s)) 16 (i ∷ []) (answer b)) (source i p) e in
-      let b = w.0 in
-      let x = check_answer (leb (4 * number_count b + byte_count b) (body s)) 16 (i ∷ []) (answer b) w.2 in
-      (w.1 ∙ x.1, rw (unanswer x.1) at (leb-true _ (body s) x.0))
-
-  pub parse_fits : (i p : ℕ) {b : List ℕ} → source i p ≡ answer b → Fits s b → parse_page s source i p ≡ answer b
-  unfolding parse_page
-  parse_fits i p e fits = rw (e, le-leb _ (body s) fits)
-
   -- ---- one step
 
-  pub walk_page : (deleting : Bool) (left i : ℕ) (f : Found) {b : List ℕ} → i < length f.numbers → source i (get_or f.numbers i 0) ≡ answer b → Fits s b
+  pub walk_page : (deleting : Bool) (left i : ℕ) (f : Found) {b : List ℕ} → i < length f.numbers → source i (get_or f.numbers i 0) ≡ answer b → Fits s b → Some b
       → walk s source deleting (suc left) i f ≡ cond (deleting && leb 1 (byte_count b)) (ended (with_page f b)) (walk s source deleting left (suc i) (with_page f b))
   unfolding walk
-  walk_page deleting left i f h e fits = rw (lt-ltb i (length f.numbers) h, parse_fits i (get_or f.numbers i 0) e fits)
+  walk_page deleting left i f h e fits some = rw (lt-ltb i (length f.numbers) h, parse_takes s source i (get_or f.numbers i 0) e fits some)
 
   -- ---- a walk that has ended
 
@@ -90,6 +38,7 @@ module _ (s : ℕ) (source : Source) where
     pub page : List ℕ
     pub from : source i (get_or f.numbers i 0) ≡ answer page
     pub fits : Fits s page
+    pub some : Some page
     pub rest : cond (deleting && leb 1 (byte_count page)) (ended (with_page f page)) (walk s source deleting left (suc i) (with_page f page)) ≡ ended g
 
   pub walk_stepped : (deleting : Bool) (left i : ℕ) (f : Found) {g : Found} → walk s source deleting (suc left) i f ≡ ended g → Stepped deleting left i f g
@@ -97,40 +46,13 @@ module _ (s : ℕ) (source : Source) where
   walk_stepped deleting left i f e =
       let o = onward-ended f _ _ e in
       let c = check_answer (ltb i (length f.numbers)) 14 (i ∷ []) (parse_page s source i (get_or f.numbers i 0)) o.1 in
-      let p = parse_answer i (get_or f.numbers i 0) c.1 in
-      record { inside = ltb-true i (length f.numbers) c.0; page = o.0; from = p.0; fits = p.1; rest = o.2 }
+      let p = parse_answer s source i (get_or f.numbers i 0) c.1 in
+      record { inside = ltb-true i (length f.numbers) c.0; page = o.0; from = p.from; fits = p.fits; some = p.some; rest = o.2 }
 
--- ---- the pages of a store
+-- ---- a reading walk over the pages of a store
 
 module _ (s : ℕ) (store : List ℕ) where
-  pub store_page : (i p : ℕ) → p < page_count s store → in_store s store i p ≡ answer (page_at s store p)
-  unfolding in_store
-  store_page i p h = rw (lt-ltb p (page_count s store) h)
-
-  pub store_answer : (i p : ℕ) {b : List ℕ} → in_store s store i p ≡ answer b → (p < page_count s store) × (page_at s store p ≡ b)
-  unfolding in_store
-  store_answer i p e =
-      let x = check_answer (ltb p (page_count s store)) 15 (i ∷ []) (answer (page_at s store p)) e in
-      (ltb-true p (page_count s store) x.0, unanswer x.1)
-
-  -- a store has pages only at a size of one byte or more
-  some_size : (p : ℕ) → p < page_count s store → 0 < s
-  unfolding page_count
-  some_size p h = by_size (dec_lt 0 s)
-    where
-      by_size : Dec (0 < s) → 0 < s
-      by_size (yes some) = some
-      by_size (no none) =
-          let z : s ≡ 0 = omega arith in
-          absurd (omega (arith, ap (λ (k : ℕ). length store / k) z ∙ div-zero (length store)))
-
-  pub page_long : (p : ℕ) → p < page_count s store → length (page_at s store p) ≡ s
-  page_long p h = length-page_at s store p (page_within_lem s store p (some_size p h) h)
-
-  pub store_paged : Paged s (in_store s store)
-  store_paged i p b e = let a = store_answer i p e in sym (ap length a.1) ∙ page_long p a.0
-
-  -- what a reading walk has found: the numbers from i on are of pages of the store, and their bytes are those found
+  -- what it has found: the numbers from i on are of pages of the store, and their bytes are those found
   pub record Visited (left i : ℕ) (f g : Found) : Type 0 where
     pub rest : List ℕ
     pub numbers : g.numbers ≡ f.numbers ++ rest
@@ -152,7 +74,7 @@ module _ (s : ℕ) (store : List ℕ) where
   walk_visited (suc left) i f g e =
       let w = walk_stepped s (in_store s store) false left i f e in
       let p = get_or f.numbers i 0 in
-      let a = store_answer i p w.from in
+      let a = store_answer s store i p w.from in
       let b = w.page in
       let v = walk_visited left (suc i) (with_page f b) g w.rest in
       let numbers : g.numbers ≡ f.numbers ++ (value_numbers b ++ v.rest) = v.numbers ∙ append_assoc f.numbers (value_numbers b) v.rest in

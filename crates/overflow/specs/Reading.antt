@@ -21,9 +21,15 @@ Source = ℕ → ℕ → Outcome (List ℕ)
 unfoldable pub in_store : ℕ → List ℕ → Source
 in_store s store i p = check (ltb p (page_count s store)) 15 (i ∷ []) (answer (page_at s store p))
 
--- the bytes of such a page, whose numbers and value bytes fit its body
+-- the bytes of such a page, whose numbers and value bytes fit its body, and which has at least one of them
 unfoldable pub parse_page : ℕ → Source → Source
-parse_page s source i p = with_answer (λ b. check (leb (4 * number_count b + byte_count b) (body s)) 16 (i ∷ []) (answer b)) (source i p)
+parse_page s source i p =
+    with_answer
+    (λ b.
+    check (leb (4 * number_count b + byte_count b) (body s)) 16 (i ∷ [])
+    (check (leb 1 (number_count b + byte_count b)) 25 (i ∷ [])
+    (answer b)))
+    (source i p)
 
 -- the numbers and the value bytes found so far
 pub record Found : Type 0 where

@@ -1,12 +1,12 @@
--- What is shown of written values, at pages of s bytes.
+-- What is shown of written values, and of deleting, at pages of s bytes.
 use Rattle.std.specs.Prelude.{ℕ, zero, suc, ◌+◌, ◌*◌, ◌-◌, ◌<◌, ◌≤◌, ◌≡◌, cond, List, [], ltb, length}
 use Rattle.std.proofs.lemmas.List.Edits.{sets}
-use Rattle.refusal.specs.Outcome.{answer, refused}
+use Rattle.refusal.specs.Outcome.{answer, refused, Never}
 use Rattle.refusal.specs.Effect.{effect}
 use Rattle.overflow.specs.Totals.{max_size, body, total_pages, Total, page_total}
 use Rattle.overflow.specs.ValuePages.{number_count, byte_count, value_page, chunk_into}
 use Rattle.overflow.specs.Cells.{hash_size, cell_bytes}
-use Rattle.overflow.specs.Reading.{read_value_into, delete_into}
+use Rattle.overflow.specs.Reading.{Source, parse_page, read_value_into, delete_into}
 use Rattle.overflow.specs.Kept.{Kept, cell_for}
 
 -- the writer makes a page for each index below the total, and for no other
@@ -19,6 +19,16 @@ PageForEach s = (value numbers page : List ℕ) (i : ℕ) → 1 ≤ length value
 abbrev pub NoneEmpty : ℕ → Type 0
 NoneEmpty s = (value numbers : List ℕ) (i : ℕ) → length numbers ≡ total_pages s (length value) → i < total_pages s (length value)
     → let page = value_page s (total_pages s (length value)) value numbers i in 1 ≤ number_count page + byte_count page
+
+-- so the writer never makes an empty page, whatever it is lent: what it writes starts with two counts of which one at least is not 0
+abbrev pub NeverEmpty : ℕ → Type 0
+NeverEmpty s = (value numbers page : List ℕ) (i told : ℕ) → let e = chunk_into s value numbers i page in e.outcome ≡ answer told
+    → 1 ≤ number_count e.lent + byte_count e.lent
+
+-- and page reading takes each page that it makes, wherever it comes from and at whatever index a walk comes to it: 16 and 25 are not for these
+abbrev pub PageTaken : ℕ → Type 0
+PageTaken s = (value numbers : List ℕ) (i : ℕ) → length numbers ≡ total_pages s (length value) → i < total_pages s (length value)
+    → (source : Source) (k p : ℕ) → let page = value_page s (total_pages s (length value)) value numbers i in source k p ≡ answer page → parse_page s source k p ≡ answer page
 
 -- what a page leaves behind its two counts, its numbers and its value bytes
 unfoldable pub left_on : List ℕ → ℕ
@@ -56,3 +66,8 @@ abbrev pub DeletesAll : ℕ → Type 0
 DeletesAll s = (store value numbers : List ℕ) → Kept s store (total_pages s (length value)) value numbers → (hash : List ℕ) → length hash ≡ hash_size
     → (table : List ℕ) → length numbers ≤ length table
     → delete_into s (cell_bytes (cell_for value hash numbers)) store table ≡ effect (answer (length numbers)) (sets table 0 numbers)
+
+-- deleting knows the number of every page it comes to, whatever the store holds: it goes on only behind pages without bytes, and each of these
+-- has a number
+abbrev pub DeleteKnows : ℕ → Type 0
+DeleteKnows s = (cell store table : List ℕ) → Never 14 (delete_into s cell store table).outcome

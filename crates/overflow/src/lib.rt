@@ -7,6 +7,7 @@ pub mod cell;
 pub mod chunk;
 pub mod delete;
 pub mod page_ref;
+mod parse;
 pub mod read;
 pub mod total;
 pub mod value_page;

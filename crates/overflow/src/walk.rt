@@ -10,6 +10,7 @@ ghost use Rattle.overflow.specs.Steps.{page_outcome, visit_into, deletes, walk_i
 
 use crate::cell::ValueCounts;
 use crate::page_ref::ValuePageRef;
+use crate::parse::parse_page;
 use page::little_endian::read_numbers;
 use page::store::Store;
 use refusal::Refusal;
@@ -64,8 +65,8 @@ pub(crate) fn walk(
 }
 
 // Visits page i of a walk, whose number stands in the table if it is known: puts the page's numbers behind the `known` ones, and answers
-// the page. Refusals 14, 15 and 16. Both places are in the table, which is lent whole as it is filled while it is read.
-#[tactic(auto, using(page::proofs::PageSizeLaws::page_least, crate::proofs::TableLaws::visit_unknown, crate::proofs::TableLaws::visit_missing, crate::proofs::TableLaws::visit_unfit, crate::proofs::TableLaws::visit_page))]
+// the page. Refusal 14, and those of the page. Both places are in the table, which is lent whole as it is filled while it is read.
+#[tactic(auto, using(crate::proofs::TableLaws::visit_unknown, crate::proofs::TableLaws::visit_refused))]
 fn visit_page<'a>(
     store: &Store<'a>,
     i: usize,
@@ -78,17 +79,8 @@ fn visit_page<'a>(
     if known <= i {
         return Err(Refusal::Unknown(i));
     }
-    let number = table[i];
-    if store.page_count() <= number {
-        return Err(Refusal::Missing(i));
-    }
-    let bytes = store.page(number);
-    let page = ValuePageRef::new(bytes);
-    let count = usize::from(page.number_count());
-    if store.page_size().bytes() - 4 < 4 * count + usize::from(page.byte_count()) {
-        return Err(Refusal::ValuePage(i));
-    }
-    queue(bytes, 4, count, table, known);
+    let page = parse_page(store, i, table[i])?;
+    queue(page.0, 4, usize::from(page.number_count()), table, known);
     Ok(page)
 }
 

@@ -1,3 +1,4 @@
--- Laws about outcomes (`OutcomeLaws`) and about what the functions of the C interface leave (`CalledLaws`), for the crates above.
+-- Laws about outcomes (`OutcomeLaws`, `NeverLaws`) and about what the functions of the C interface leave (`CalledLaws`), for the crates above.
 pub mod OutcomeLaws
+pub mod NeverLaws
 pub mod CalledLaws

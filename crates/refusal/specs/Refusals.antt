@@ -1,10 +1,10 @@
--- Document 01's table 'What stops a call': the number of each refusal, and the values returned with it.
+-- Document 01's table 'What stops a call', and document 02's new numbers: the number of each refusal, and the values returned with it.
 use Rattle.std.specs.Prelude.{ℕ, List, [], ◌∷◌, Option, Some, None, Result, Ok, Err}
 use Rattle.refusal.specs.Outcome.{Outcome, answer, refused}
 use Rattle.refusal.specs.declared.Refusal.{Refusal}
-use Rattle.refusal.specs.declared.Refusal.TheVariants.{State, ListPage, Count, Entry, Chain, Tables, Limit, Freed, Buffer, Size, Index, Cell, Room, Unknown, Missing, ValuePage, Numbers, Bytes}
+use Rattle.refusal.specs.declared.Refusal.TheVariants.{State, ListPage, Count, Entry, Chain, Tables, Limit, Freed, Buffer, Size, Index, Cell, Room, Unknown, Missing, ValuePage, Numbers, Bytes, EmptyPage}
 
--- the number in the table
+-- the number
 abbrev pub number : Refusal → ℕ
 number State = 1
 number (ListPage page) = 2
@@ -24,6 +24,7 @@ number (Missing index) = 15
 number (ValuePage index) = 16
 number Numbers = 17
 number Bytes = 18
+number (EmptyPage index) = 25
 
 -- what is returned beside the number; of a page that is looked up the index of `Missing` is its number
 abbrev pub values : Refusal → List ℕ
@@ -45,6 +46,7 @@ values (Missing index) = index ∷ []
 values (ValuePage index) = index ∷ []
 values Numbers = []
 values Bytes = []
+values (EmptyPage index) = index ∷ []
 
 -- a value returned beside the number, or none
 abbrev pub told_beside : Option ℕ → List ℕ

@@ -1,4 +1,4 @@
-// The refusals of document 01: what a call answers where it cannot do what was asked.
+// The refusals of document 01, and those of document 02 that are in: what a call answers where it cannot do what was asked.
 //
 // A refusal has a number and, for some rows of the table, a value. `specs/Refusals` gives both for every case.
 #![tactic(auto)]
@@ -7,7 +7,7 @@ ghost use Rattle.std.specs.Prelude.{◌≡◌};
 ghost use Rattle.std.proofs.lemmas.List.Edits.{sets};
 ghost use Rattle.refusal.specs.Refusals.{number, values, told_beside};
 
-// One case for each row of document 01's table, in its order, with the value that the row returns beside the number.
+// One case for each row of document 01's table, in its order, and then document 02's, with the value that the row returns beside the number.
 #[derive(Clone, Copy, Debug, PartialEq, Eq)]
 pub enum Refusal {
     // 1: a bump of 0 or above its limit, a P and L outside the shape, or tables shorter than them.
@@ -46,9 +46,11 @@ pub enum Refusal {
     Numbers,
     // 18: the bytes found are not `size`.
     Bytes,
+    // 25: the value page at this index has no numbers and no bytes.
+    EmptyPage(usize),
 }
 
-// The refusal's number in document 01's table.
+// The refusal's number in its document.
 impl From<Refusal> for u32 {
     ghost from_gives = { λ r n. n ≡ number r };
 
@@ -72,6 +74,7 @@ impl From<Refusal> for u32 {
             Refusal::ValuePage(_) => 16,
             Refusal::Numbers => 17,
             Refusal::Bytes => 18,
+            Refusal::EmptyPage(_) => 25,
         }
     }
 }
@@ -86,9 +89,10 @@ impl Refusal {
                 Some(u64::from(page))
             }
             Refusal::Freed(place) => Some(place as u64),
-            Refusal::Unknown(index) | Refusal::Missing(index) | Refusal::ValuePage(index) => {
-                Some(index as u64)
-            }
+            Refusal::Unknown(index)
+            | Refusal::Missing(index)
+            | Refusal::ValuePage(index)
+            | Refusal::EmptyPage(index) => Some(index as u64),
             _ => None,
         }
     }

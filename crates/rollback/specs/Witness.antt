@@ -118,8 +118,9 @@ pub record Witnessed : Type 0 where
       ≡ effect (answer (record { P = 1; L = 2 })) (tables (2 ∷ 0 ∷ []) (4 ∷ 1 ∷ 0 ∷ []))
   pub value_read : read_value_into small (value_at 3 new_bytes).cell cut_store no_value
       ≡ effect (answer (record { size = 3; numbers = 1 })) (record { numbers = 3 ∷ 0 ∷ []; value = 1 ∷ 2 ∷ 3 ∷ 0 ∷ 0 ∷ [] })
-  -- a finish that used the freed number 4 at once for its list page: the first value is lost
-  pub freed_reused : (read_value_into small (value_at 4 bytes).cell (write_pages small store (list_page_at 4 (2 ∷ 1 ∷ []) ∷ [])) no_value).outcome ≡ refused 18 []
+  -- a finish that used the freed number 4 at once for its list page: the first value is lost, as a list page without one under it has the counts of
+  -- an empty value page
+  pub freed_reused : (read_value_into small (value_at 4 bytes).cell (write_pages small store (list_page_at 4 (2 ∷ 1 ∷ []) ∷ [])) no_value).outcome ≡ refused 25 (0 ∷ [])
   -- a finish that wrote its list page over the head: the first list is lost
   pub head_in_place : read_list_into small (write_pages small store (list_page_at 1 (2 ∷ 4 ∷ []) ∷ [])) false 1 (tables (0 ∷ []) (0 ∷ 0 ∷ []))
       ≡ effect (answer (record { P = 1; L = 2 })) (tables (1 ∷ []) (2 ∷ 4 ∷ []))

@@ -1,4 +1,4 @@
--- Document 01's marked samples hold.
+-- Document 01's marked samples hold, and document 02's.
 -- Each row is an equation of two terms that compute to the same; a whole page that stands in a buffer by the law of such places, since
 -- place by place it computes too long.
 use Prim.Native.Nat.{ℕ, ◌+◌}
@@ -21,7 +21,9 @@ use Rattle.allocator.specs.OpenSave.{state_fits, next_number, next_recorded, han
 use Rattle.finisher.specs.Finish.{new_list, encoded_page, encoded_pages, carried_out, finish_list, first_bad, finish_answer, tables_of, finished, room_in, finish as finishing, bytes_of_pages, finish_into}
 use Rattle.overflow.specs.Totals.{max_size, raw_pages, total_pages, spare_room, total_of, page_total}
 use Rattle.overflow.specs.Layout.{numbers_before, numbers_on, bytes_before, bytes_on}
-use Rattle.overflow.specs.ValuePages.{encode_value_page, value_page, chunk, chunk_into}
+use Rattle.overflow.specs.ValuePages.{number_count, byte_count, value_numbers, value_bytes, encode_value_page, value_page, chunk, chunk_into}
+use Rattle.overflow.specs.Cells.{cell_bytes, cell_size, cell_count, cell_of, decode_cell}
+use Rattle.overflow.specs.Reading.{in_store, parse_page, walk, admitted, read_value_into, delete_into}
 use Rattle.samples.specs.Samples.{old, list, save, room, finish, writes, value, write, writes_bytes, Samples}
 
 -- a whole page in a buffer with a place more
@@ -51,7 +53,7 @@ unfolding chunk_into
 page_of_lem i bytes done long = rw (done, page-stands bytes long, long)
 
 pub samples : Samples
-unfolding numbers_from number_at numbers_at bytes_of bytes_of_all capacity page_count page_at prev_of count_of entries_of encode_list_page count_fits all_entries_fit read_from list_from read_list_into is_shape is_fragmented entries_below entries_on head_of pages_for room_of pages_after pushed_after first_plan next_plan enough_room plan_of state_fits next_number next_recorded hand_out count_up new_list encoded_page encoded_pages carried_out finish_list first_bad finish_answer finished finishing bytes_of_pages finish_into grow grown rounded_up max_size raw_pages total_pages spare_room total_of page_total numbers_before numbers_on bytes_before bytes_on encode_value_page value_page chunk chunk_into
+unfolding numbers_from number_at numbers_at bytes_of bytes_of_all capacity page_count page_at prev_of count_of entries_of encode_list_page count_fits all_entries_fit read_from list_from read_list_into is_shape is_fragmented entries_below entries_on head_of pages_for room_of pages_after pushed_after first_plan next_plan enough_room plan_of state_fits next_number next_recorded hand_out count_up new_list encoded_page encoded_pages carried_out finish_list first_bad finish_answer finished finishing bytes_of_pages finish_into grow grown rounded_up max_size raw_pages total_pages spare_room total_of page_total numbers_before numbers_on bytes_before bytes_on encode_value_page value_page chunk chunk_into number_count byte_count value_numbers value_bytes cell_bytes cell_size cell_count cell_of decode_cell in_store parse_page walk admitted read_value_into delete_into
 samples =
     record {
       grow_0 = refl;
@@ -83,4 +85,6 @@ samples =
       total_largest = refl;
       page_0_of_61381 = page_of_lem 0 _ refl refl;
       page_15_of_61381 = page_of_lem 15 _ refl refl;
+      empty_page_read = refl;
+      empty_page_deleted = refl;
     }

@@ -1,9 +1,9 @@
 -- Document 01's marked samples at its page size, a row for each answer that they name. A row is about the definition that the operation's
 -- contract cites: what is answered, and every place of what is lent, after the call; bytes are written out. Two rows are sums: that a page
--- less would do. The spare room is as document 02 has it.
+-- less would do. The spare room is as document 02 has it, and the last two rows are of its empty value page.
 use Rattle.std.specs.Prelude.{ℕ, ◌+◌, ◌*◌, ◌-◌, ◌^◌, ◌≡◌, false, List, [], ◌∷◌, ◌++◌, length, replicate}
 use Rattle.laws.specs.Counting.{numbers_from}
-use Rattle.refusal.specs.Outcome.{Outcome, answer}
+use Rattle.refusal.specs.Outcome.{Outcome, answer, refused}
 use Rattle.refusal.specs.Effect.{Effect, effect}
 use Rattle.page.specs.PageSize.{standard_page_size}
 use Rattle.page.specs.Growth.{grow}
@@ -13,6 +13,8 @@ use Rattle.allocator.specs.OpenSave.{Save, Counters, count_up}
 use Rattle.finisher.specs.Finish.{FinishAnswer, FinishRoom, FinishLent, finish_into}
 use Rattle.overflow.specs.Totals.{Total, cell_numbers, body, page_total}
 use Rattle.overflow.specs.ValuePages.{chunk_into}
+use Rattle.overflow.specs.Cells.{cell_with, hash_size, cell_bytes}
+use Rattle.overflow.specs.Reading.{ReadLent, read_value_into, delete_into}
 
 -- what lent places hold before a call
 abbrev pub old : ℕ
@@ -97,6 +99,13 @@ write i = chunk_into standard_page_size value (numbers_from 101 16) i (replicate
 abbrev pub writes_bytes : List ℕ → Effect ℕ (List ℕ)
 writes_bytes bytes = effect (answer standard_page_size) (bytes ++ (old ∷ []))
 
+-- a cell of a value of one byte on page 12 of the store, which has only zeros, and what is lent to read it
+abbrev pub empty_cell : List ℕ
+empty_cell = cell_bytes (cell_with 1 (replicate hash_size 0) (12 ∷ []))
+
+abbrev pub lent : List ℕ → ReadLent
+lent numbers = record { numbers = numbers; value = old ∷ old ∷ [] }
+
 pub record Samples : Type 0 where
   pub grow_0 : grow 0 ≡ answer 8192
   pub grow_1 : grow 1 ≡ answer 8192
@@ -132,3 +141,5 @@ pub record Samples : Type 0 where
   pub total_largest : page_total standard_page_size (2 ^ 29) ≡ pages 131329 15 2100
   pub page_0_of_61381 : write 0 ≡ writes_bytes (1 ∷ 0 ∷ 248 ∷ 15 ∷ 116 ∷ 0 ∷ 0 ∷ 0 ∷ replicate 4088 1)
   pub page_15_of_61381 : write 15 ≡ writes_bytes (page (0 ∷ 0 ∷ 5 ∷ 0 ∷ 3 ∷ 3 ∷ 3 ∷ 3 ∷ 3 ∷ []))
+  pub empty_page_read : read_value_into standard_page_size empty_cell store (lent (old ∷ old ∷ [])) ≡ effect (refused 25 (0 ∷ [])) (lent (12 ∷ old ∷ []))
+  pub empty_page_deleted : delete_into standard_page_size empty_cell store (old ∷ old ∷ []) ≡ effect (refused 25 (0 ∷ [])) (12 ∷ old ∷ [])

@@ -65,6 +65,8 @@ const DIFFERENCES: [(&str, &[(u32, &str)]); 11] = [
             (16, "panics"),
             (17, "panics"),
             (18, "panics"),
+            (25, "panics"),
+            (25, "reads it"),
         ],
     ),
     (
@@ -72,11 +74,12 @@ const DIFFERENCES: [(&str, &[(u32, &str)]); 11] = [
         &[
             (10, "panics"),
             (12, "panics"),
-            (14, "panics"),
             (15, "deletes it"),
             (15, "panics"),
             (16, "panics"),
             (17, "panics"),
+            (25, "deletes it"),
+            (25, "panics"),
         ],
     ),
     ("lookup", &[(15, "panics"), (15, "reads it")]),

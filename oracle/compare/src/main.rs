@@ -20,8 +20,8 @@ use record::Recorder;
 use report::text_of;
 use std::{collections::BTreeMap, env, io, ops::RangeInclusive, process::ExitCode};
 
-/// The refusals of document 01's table.
-const REFUSALS: RangeInclusive<u32> = 1..=18;
+/// The refusals of document 01's table, and the one of document 02's request Eight.
+const REFUSALS: [RangeInclusive<u32>; 2] = [1..=18, 25..=25];
 
 const USAGE: &str = "\
 usage: compare [--short] [--seed N] [--count N] [--self-test] [--record FILE]
@@ -111,7 +111,7 @@ fn compare(plan: &Plan) -> io::Result<bool> {
     Ok(all_refusals(&reached) && agreed)
 }
 
-/// Shows how often each reply was expected, and tells whether every refusal of document 01 was.
+/// Shows how often each reply was expected, and tells whether every refusal was.
 fn all_refusals(reached: &BTreeMap<u32, u64>) -> bool {
     let calls: u64 = reached.values().sum();
     println!(
@@ -119,6 +119,8 @@ fn all_refusals(reached: &BTreeMap<u32, u64>) -> bool {
         text_of(reached)
     );
     let missing: Vec<u32> = REFUSALS
+        .into_iter()
+        .flatten()
         .filter(|number| !reached.contains_key(number))
         .collect();
     if !missing.is_empty() {

@@ -186,7 +186,7 @@ impl Recorder {
     /// Writes all that was kept, and tells how many lines there are of each kind and status.
     pub fn write(&self, path: &str, seed: u64, count: u64) -> io::Result<String> {
         let mut text = format!(
-            "# Made by oracle/compare --record, seed {seed}, count {count}: status 0 is what the Rust gave, any other a refusal of document 01's \
+            "# Made by oracle/compare --record, seed {seed}, count {count}: status 0 is what the Rust gave, any other a refusal of the documents \
              that the model in oracle/compare gives. Page lookup, kind 11, is the model's alone.\n"
         );
         let mut counts: BTreeMap<(u32, u32), usize> = BTreeMap::new();

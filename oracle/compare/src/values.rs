@@ -3,7 +3,7 @@
 //!
 //! What stands on a page and in a cell comes from the Rust, and so does what the pages leave, which
 //! `total` has to tell. The Rust stops in other ways than the library, so what to expect of reading
-//! and deleting comes from a model of document 01. What the model reads or deletes the Rust has to
+//! and deleting comes from a model of the documents. What the model reads or deletes the Rust has to
 //! read or delete in the same way; what it does with the rest is counted.
 
 mod calls;
@@ -117,16 +117,18 @@ const REPLIES: [&[u32]; 7] = [
         model::PAGE,
         model::NUMBERS,
         model::BYTES,
+        model::EMPTY,
     ],
+    // Deleting goes on only past pages with numbers, so it never comes to one that is not known.
     &[
         0,
         model::SIZE,
         model::CELL,
         model::ROOM,
-        model::UNKNOWN,
         model::PAST_STORE,
         model::PAGE,
         model::NUMBERS,
+        model::EMPTY,
     ],
     &[0, model::BUFFER, model::PAST_STORE],
     &[0],
@@ -164,6 +166,8 @@ impl<'a> Comparison<'a> {
         written::left_bytes::<R>(self)?;
         self.group = format!("{form}, other chains");
         chains::each::<R>(self, form, &mut random, cases)?;
+        self.group = format!("{form}, empty pages");
+        chains::with_empty::<R>(self, form, &mut random, cases / 2)?;
         self.group = format!("{form}, any pages");
         chains::tangles::<R>(self, form, &mut random, cases)?;
         cells::each::<R>(self, &mut random, cases);

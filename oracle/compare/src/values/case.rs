@@ -9,7 +9,7 @@ use mopsienna_sys::values::Hash;
 use nomt_plain::Values;
 use std::{fmt, io};
 
-use Harm::{Byte, Bytes, Cell, Length, More, Number, Numbers, Size, Zero};
+use Harm::{Byte, Bytes, Cell, Empty, Length, More, Number, Numbers, Size, Zero};
 
 /// Something changed after the value was written.
 #[derive(Clone, Debug)]
@@ -26,6 +26,8 @@ pub enum Harm {
     Numbers(usize, u16),
     /// Its count of value bytes is this.
     Bytes(usize, u16),
+    /// Both its counts are 0.
+    Empty(usize),
     /// All its bytes are 0.
     Zero(usize),
     /// The store's byte at this place has these bits turned over.
@@ -46,7 +48,7 @@ pub struct Case {
 /// A page as it is laid out by hand: its number, the numbers on it, and how many value bytes.
 pub type Laid = (u32, Vec<u32>, usize);
 
-/// Stores up to this length are filled, so that other pages are not empty.
+/// Stores up to this length are filled, so that other pages are not all zeros.
 const FILLED: usize = 1 << 18;
 
 impl Case {
@@ -158,6 +160,7 @@ impl Case {
             },
             Numbers(index, count) => self.write(numbers[index], 0, &count.to_le_bytes()),
             Bytes(index, count) => self.write(numbers[index], 2, &count.to_le_bytes()),
+            Empty(index) => self.write(numbers[index], 0, &[0; 4]),
             Zero(index) => self.write(numbers[index], 0, &vec![0; self.page_size]),
             Byte(at, bits) => {
                 if let Some(byte) = self.store.bytes_mut().get_mut(at) {

@@ -1,13 +1,14 @@
-//! Pages that the writer would not write. Those that end with exactly the total of numbers and the
-//! size of bytes are read; others may be.
+//! Pages that the writer would not write. The Rust reads those that end with exactly the total of
+//! numbers and the size of bytes, and so does the library where none of them is empty; others may be.
 
 use super::{
     case::{distinct, Case, Laid},
-    model::{self, last_size, total},
+    model::{self, last_size, total, CELL_NUMBERS},
     Comparison, READ,
 };
+use crate::panics::unless_panic;
 use common::Random;
-use mopsienna_sys::Form;
+use mopsienna_sys::{Form, Reply};
 use nomt_plain::Values;
 use std::io;
 
@@ -23,74 +24,128 @@ pub fn each<R: Values>(
     for _ in 0..count {
         let most = last_size(R::PAGE_SIZE, random.pick(&[3, 15, 17, 30])) as u64;
         let size = 1 + random.below(most) as usize;
-        let pages = total(R::PAGE_SIZE, size);
-        let page_count = pages + 1 + random.below(3) as usize;
-        let chain = any_chain(
-            R::PAGE_SIZE,
-            size,
-            distinct(pages, page_count, random),
-            random,
-        );
-        let length = page_count * R::PAGE_SIZE;
-        let (cell, laid) = &chain;
-        let case = Case::laid_out::<R>(length, size, cell, laid, random)?;
-        let read = model::read(R::PAGE_SIZE, &case.cell, case.store.bytes());
-        if read.is_ok_and(|walked| walked.reply.number != 0) {
-            comparison.reports[READ].disagree_at_call("the chain is none", || case.to_string());
-        }
-        comparison.check::<R>(form, &case)?;
+        chain::<R>(comparison, form, size, 0, random)?;
     }
     Ok(())
 }
 
-/// The numbers in the cell and the pages, of a value whose pages have these numbers.
+/// Passes on so many chains with empty pages anywhere, which the Rust reads. Their values have more
+/// pages than the bytes take: the numbers past the cell's have no room behind the bytes.
+pub fn with_empty<R: Values>(
+    comparison: &mut Comparison,
+    form: Form,
+    random: &mut Random,
+    count: u64,
+) -> io::Result<()> {
+    let body = R::PAGE_SIZE - 4;
+    for _ in 0..count {
+        let past_cell = 1 + random.below(15) as usize;
+        let taken = CELL_NUMBERS + past_cell;
+        let too_little = body.min(4 * past_cell) as u64;
+        let size = body * taken - random.below(too_little) as usize;
+        let most = total(R::PAGE_SIZE, size) - taken;
+        let empty = 1 + random.below(most as u64) as usize;
+        chain::<R>(comparison, form, size, empty, random)?;
+    }
+    Ok(())
+}
+
+/// Passes on a chain of a value of this size with so many empty pages, of which the first is refused.
+fn chain<R: Values>(
+    comparison: &mut Comparison,
+    form: Form,
+    size: usize,
+    empty: usize,
+    random: &mut Random,
+) -> io::Result<()> {
+    let pages = total(R::PAGE_SIZE, size);
+    let page_count = pages + 1 + random.below(3) as usize;
+    let numbers = distinct(pages, page_count, random);
+    let (cell, laid) = any_chain(R::PAGE_SIZE, size, empty, numbers, random);
+    let length = page_count * R::PAGE_SIZE;
+    let case = Case::laid_out::<R>(length, size, &cell, &laid, random)?;
+
+    let is_empty = |page: &Laid| page.1.is_empty() && page.2 == 0;
+    let reply = match laid.iter().position(is_empty) {
+        Some(index) => Reply::refusal(model::EMPTY, &[index as u64]),
+        None => Reply::answer(&[size as u64, pages as u64]),
+    };
+    let model = model::read(R::PAGE_SIZE, &case.cell, case.store.bytes());
+    let rust = unless_panic(|| R::read_value(&case.cell, case.store.file())).transpose()?;
+    if rust.is_none() || model.is_ok_and(|walked| walked.reply != reply) {
+        comparison.reports[READ].disagree_at_call("the chain is none", || case.to_string());
+    }
+    comparison.check::<R>(form, &case)?;
+    Ok(())
+}
+
+/// The numbers in the cell and the pages, of a value whose pages have these numbers and are empty at
+/// so many places.
 fn any_chain(
     page_size: usize,
     size: usize,
+    empty: usize,
     mut numbers: Vec<u32>,
     random: &mut Random,
 ) -> (Vec<u32>, Vec<Laid>) {
     let body = page_size - 4;
-    let pages = numbers.len();
+    let full = numbers.len() - empty;
     // Numbers on pages take the place of bytes.
-    let most_on_pages = ((body * pages - size) / 4).min(pages - 1);
+    let most_on_pages = ((body * full - size) / 4).min(full - 1);
     let any = random.below(most_on_pages as u64 + 1) as usize;
-    let mut numbers_left = random.pick(&[0, any, any, most_on_pages]);
-    let in_cell = pages - numbers_left;
-    let mut bytes_left = size;
-    let mut known = in_cell;
-    let mut laid: Vec<Laid> = vec![];
-    for (index, number) in numbers.iter_mut().enumerate() {
-        let room_later = body * (pages - index - 1);
+    let on_pages = random.pick(&[0, any, any, most_on_pages]);
+    let mut counts = any_counts(body, full, on_pages, size, random);
+    // The numbers that these are more go to the cell, so that every number is known in time.
+    for _ in 0..empty {
+        let place = random.below(counts.len() as u64 + 1) as usize;
+        counts.insert(place, (0, 0));
+    }
+    // Pages without numbers can be the same.
+    for (index, count) in counts.iter().enumerate() {
+        let other = counts[..index].iter().position(|other| other == count);
+        if let Some(other) = other.filter(|_| count.0 == 0 && random.below(4) == 0) {
+            numbers[index] = numbers[other];
+        }
+    }
+    let (cell, mut rest) = numbers.split_at(numbers.len() - on_pages);
+    let laid = numbers.iter().zip(counts).map(|(number, (count, bytes))| {
+        let (found, later) = rest.split_at(count);
+        rest = later;
+        (*number, found.to_vec(), bytes)
+    });
+    (cell.to_vec(), laid.collect())
+}
+
+/// How many numbers and how many bytes each of so many pages has, of all that stand on pages; none is
+/// empty.
+fn any_counts(
+    body: usize,
+    pages: usize,
+    mut numbers_left: usize,
+    mut bytes_left: usize,
+    random: &mut Random,
+) -> Vec<(usize, usize)> {
+    let mut known = pages - numbers_left;
+    let mut counts = vec![];
+    for index in 0..pages {
+        let later = pages - index - 1;
         // So much of this page has to be used, and the next number has to be known.
-        let least = (4 * numbers_left + bytes_left).saturating_sub(room_later);
-        let needed = usize::from(known == index + 1 && index + 1 < pages);
-        let fewest = needed.max(least.saturating_sub(bytes_left).div_ceil(4));
+        let least = (4 * numbers_left + bytes_left).saturating_sub(body * later);
+        let fewest = usize::from(known == index + 1 && later > 0);
         let most = numbers_left.min(body / 4);
         let any = fewest + random.below((most - fewest) as u64 + 1) as usize;
         let count = random.pick(&[fewest, fewest, any, most]);
-        let fewest = least.saturating_sub(4 * count);
-        let most = bytes_left.min(body - 4 * count);
+        // Each later page is left a byte.
+        let fewest = least.saturating_sub(4 * count).max(usize::from(count == 0));
+        let most = (bytes_left - later).min(body - 4 * count);
         let any = fewest + random.below((most - fewest) as u64 + 1) as usize;
         let bytes = random.pick(&[fewest, most, most, any]);
-
-        let same = |page: &&Laid| page.1.is_empty() && page.2 == bytes;
-        let other = laid.iter().find(same).map(|page| page.0);
-        if let Some(other) = other.filter(|_| count == 0 && random.below(4) == 0) {
-            *number = other;
-        }
-        laid.push((*number, vec![0; count], bytes));
+        counts.push((count, bytes));
         known += count;
         numbers_left -= count;
         bytes_left -= bytes;
     }
-    // Only now all numbers are as they stay.
-    let mut rest = numbers[in_cell..].iter().copied();
-    for (_, on_page, _) in &mut laid {
-        on_page.fill_with(|| rest.next().unwrap_or(0));
-    }
-    numbers.truncate(in_cell);
-    (numbers, laid)
+    counts
 }
 
 /// Passes on so many small stores with any counts that fit and any numbers on every page. The size

@@ -3,9 +3,9 @@
 use super::{
     case::{
         distinct, Case,
-        Harm::{self, Byte, Bytes, Cell, Length, More, Number, Numbers, Size, Zero},
+        Harm::{self, Byte, Bytes, Cell, Empty, Length, More, Number, Numbers, Size, Zero},
     },
-    model::{last_size, page_count, total, TOO_LARGE},
+    model::{last_size, page_count, total, CELL_NUMBERS, TOO_LARGE},
     Comparison, Extent,
 };
 use common::Random;
@@ -13,8 +13,9 @@ use mopsienna_sys::Form;
 use nomt_plain::Values;
 use std::io;
 
-/// Passes on values of some pages with every count on every page, every number near the store's at
-/// every place, every length of the cell and of the store.
+/// Passes on values of some pages with every count on every page, every two pages empty, every number
+/// near the store's at every place, every length of the cell and of the store; and on a longer one
+/// with every page empty.
 pub fn every<R: Values>(
     comparison: &mut Comparison,
     form: Form,
@@ -36,6 +37,7 @@ pub fn every<R: Values>(
         let mut harms = vec![];
         for index in 0..pages {
             harms.push(vec![Zero(index)]);
+            harms.extend((0..index).map(|other| vec![Empty(other), Empty(index)]));
             for count in 0..=body as u16 / 4 + 1 {
                 for bytes in 0..=body as u16 + 1 {
                     harms.push(vec![Numbers(index, count), Bytes(index, bytes)]);
@@ -54,6 +56,26 @@ pub fn every<R: Values>(
             let case = Case::written::<R>(page_count * page, size, &numbers, &harms)?;
             comparison.check::<R>(form, &case)?;
         }
+    }
+    every_empty::<R>(comparison, form, random)
+}
+
+/// Passes on a value with an empty page at every place. Its pages with numbers alone, which deleting
+/// goes past, are more than a cell has numbers.
+fn every_empty<R: Values>(
+    comparison: &mut Comparison,
+    form: Form,
+    random: &mut Random,
+) -> io::Result<()> {
+    let page = R::PAGE_SIZE;
+    let of_numbers = CELL_NUMBERS + 1;
+    let size = last_size(page, CELL_NUMBERS + of_numbers * (page - 4) / 4) + 1;
+    let pages = total(page, size);
+    let page_count = pages + 2;
+    let numbers = distinct(pages, page_count, random);
+    for index in 0..pages {
+        let case = Case::written::<R>(page_count * page, size, &numbers, &[Empty(index)])?;
+        comparison.check::<R>(form, &case)?;
     }
     Ok(())
 }
@@ -108,7 +130,7 @@ fn any_harm(
         numbers[index],
         numbers[0],
     ]);
-    match random.below(12) {
+    match random.below(13) {
         0 => {
             let size = size as u64;
             let any = random.below(2 * size + 2);
@@ -139,7 +161,8 @@ fn any_harm(
             Bytes(index, random.pick(&counts) as u16)
         }
         9 => Zero(index),
-        10 => {
+        10 => Empty(index),
+        11 => {
             let at = numbers[index] as usize * page_size + random.below(page_size as u64) as usize;
             Byte(random.pick(&[at, at - at % page_size]), any as u8)
         }

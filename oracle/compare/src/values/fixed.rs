@@ -3,17 +3,20 @@
 use super::{
     case::{
         Case,
-        Harm::{self, Bytes, Cell, Length, More, Number, Numbers, Size, Zero},
+        Harm::{self, Bytes, Cell, Empty, Length, More, Number, Numbers, Size, Zero},
+        Laid,
     },
     model::{first_filled, last_size, total, CELL_NUMBERS, MAX_SIZE, TOO_LARGE},
     Comparison, Extent,
 };
+use common::Random;
 use mopsienna_sys::Form;
 use nomt_plain::Values;
 use std::io;
 
 /// Passes on harmed values of one page, of two, of one more than a cell has numbers for, and, unless
-/// pages are large and little is compared, of as many as need a second page with numbers.
+/// pages are large and little is compared, of as many as need a second page with numbers; and on the
+/// smallest ones that the Rust reads with an empty page.
 pub fn each<R: Values>(comparison: &mut Comparison, form: Form, extent: Extent) -> io::Result<()> {
     let page = R::PAGE_SIZE;
     let filled = first_filled(page);
@@ -29,6 +32,7 @@ pub fn each<R: Values>(comparison: &mut Comparison, form: Form, extent: Extent) 
         let size = last_size(page, CELL_NUMBERS) + 1;
         many::<R>(comparison, form, size, &harms)?;
     }
+    one_empty::<R>(comparison, form)?;
     if page < 1000 || extent != Extent::Least {
         for harms in on_many_pages(page, filled) {
             let size = last_size(page, filled) + 1;
@@ -65,7 +69,6 @@ fn on_one_page(page: usize) -> Vec<Vec<Harm>> {
         vec![Size(2)],
         vec![Size(body.into())],
         vec![Size(u64::from(body) + 1)],
-        vec![Size(u64::from(body) + 1), Bytes(0, 0)],
         vec![Size(u64::from(body) * 15 + 1)],
         vec![Size(1 << 22)],
         vec![Size(MAX_SIZE as u64)],
@@ -79,7 +82,6 @@ fn on_one_page(page: usize) -> Vec<Vec<Harm>> {
         vec![Bytes(0, body + 1)],
         vec![Bytes(0, u16::MAX)],
         vec![Bytes(0, body)],
-        vec![Bytes(0, 0)],
         vec![Bytes(0, 2)],
         vec![Numbers(0, 1)],
         vec![Numbers(0, all_numbers)],
@@ -89,8 +91,16 @@ fn on_one_page(page: usize) -> Vec<Vec<Harm>> {
         vec![Numbers(0, all_numbers), Bytes(0, 0)],
         vec![Numbers(0, all_numbers), Bytes(0, u16::MAX)],
         vec![Bytes(0, body), Size(body.into())],
-        vec![Zero(0)],
         vec![Number(0, 0)],
+        // Nothing on the page.
+        vec![Bytes(0, 0)],
+        vec![Bytes(0, 0), Size(u64::from(body) + 1)],
+        vec![Zero(0)],
+        // Something on it, by counts that would be 0 in 8 or 16 bits.
+        vec![Bytes(0, 256)],
+        vec![Numbers(0, 256), Bytes(0, 0)],
+        vec![Numbers(0, 1 << 14), Bytes(0, 0)],
+        vec![Numbers(0, (1 << 14) - 1), Bytes(0, 4)],
         // The order of refusals.
         vec![Cell(45), Size(0)],
         vec![Cell(40), Size(TOO_LARGE)],
@@ -98,7 +108,11 @@ fn on_one_page(page: usize) -> Vec<Vec<Harm>> {
         vec![Length(0), Bytes(0, body + 1)],
         vec![Length(page), More(1)],
         vec![Bytes(0, body + 1), More(1)],
+        vec![Bytes(0, 0), Cell(45)],
+        vec![Bytes(0, 0), Size(0)],
+        vec![Bytes(0, 0), Length(2 * page - 1)],
         vec![Bytes(0, 0), More(1)],
+        vec![Bytes(0, 0), Size(2)],
         vec![Bytes(0, 0), Numbers(0, 1)],
     ];
     cases.extend((0..=49).map(|length| vec![Cell(length)]));
@@ -130,26 +144,59 @@ fn on_two_pages(page: usize) -> Vec<Vec<Harm>> {
         vec![Bytes(0, body + 1), Number(1, 3)],
         vec![Number(1, 3), More(1)],
         vec![Bytes(1, body + 1), More(1)],
-        vec![Bytes(1, 0), More(1)],
-        vec![Cell(44), Bytes(0, 0)],
         vec![Cell(44), Number(0, 3)],
         vec![Cell(44), Bytes(0, body + 1)],
         vec![Length(2 * page)],
-        vec![Length(2 * page), Bytes(0, 0)],
         vec![Length(3 * page - 1)],
         vec![Length(page)],
         // Bytes that are there, but not those of the size.
         vec![Bytes(0, body - 1)],
         vec![Bytes(0, body - 1), Bytes(1, 2)],
         vec![Bytes(0, 1), Bytes(1, body)],
-        vec![Bytes(0, 0), Bytes(1, body)],
+        // Empty pages: either or both, with all bytes on the other, and the same one twice.
+        vec![Empty(1)],
+        vec![Empty(0)],
+        vec![Empty(0), Empty(1)],
+        vec![Empty(0), Bytes(1, body)],
         vec![Zero(0)],
         vec![Zero(1)],
+        vec![Empty(0), Number(1, 1)],
+        vec![Empty(1), Number(0, 2)],
+        // Behind what is refused, and before it.
+        vec![Empty(1), Number(0, 3)],
+        vec![Empty(1), Cell(44)],
+        vec![Empty(1), Length(3 * page - 1)],
+        vec![Empty(1), Bytes(0, body + 1)],
+        vec![Empty(0), Cell(44)],
+        vec![Empty(0), Number(1, 3)],
+        vec![Empty(0), Length(2 * page)],
+        vec![Empty(0), Bytes(1, body + 1)],
+        vec![Empty(1), More(1)],
+        vec![Empty(1), Size(2 * u64::from(body))],
         vec![Size(0)],
         vec![Size(u64::from(body))],
         vec![Size(u64::from(body) + 2)],
         vec![Size(2 * u64::from(body) + 1)],
+        // Numbers alone on the first page, so that deleting comes to the second.
+        on_first_page(1, 2, &[]),
+        on_first_page(1, 2, &[Empty(1)]),
+        on_first_page(2, 2, &[Empty(1)]),
+        on_first_page(1, 2, &[Empty(1), More(1)]),
+        on_first_page(1, 2, &[Bytes(1, body + 1)]),
+        on_first_page(1, 3, &[Empty(1)]),
     ]
+}
+
+/// Harms that leave one number in the cell, and on the first page so many numbers, of which the first
+/// is this, and no bytes; and more harms.
+fn on_first_page(count: u16, number: u32, more: &[Harm]) -> Vec<Harm> {
+    let first = [
+        Cell(44),
+        Numbers(0, count),
+        Bytes(0, 0),
+        Number(CELL_NUMBERS, number),
+    ];
+    [&first[..], more].concat()
 }
 
 /// Harms to a value that needs one page more than so many. Its last page has the last number.
@@ -185,9 +232,18 @@ fn on_many_pages(page: usize, pages: usize) -> Vec<Vec<Harm>> {
         vec![Bytes(0, 0)],
         vec![Bytes(1, 0)],
         vec![Bytes(last, u16::MAX)],
+        // Empty pages, also behind what is refused and before it.
         vec![Zero(0)],
         vec![Zero(holder)],
         vec![Zero(last)],
+        vec![Empty(14)],
+        vec![Empty(15)],
+        vec![Empty(1), Empty(last)],
+        vec![Empty(1), More(1)],
+        vec![Empty(1), Bytes(last, u16::MAX)],
+        vec![Empty(last), Bytes(1, u16::MAX)],
+        vec![Empty(last), Length((last + 2) * page - 1)],
+        vec![Empty(last), Numbers(holder, held - 1)],
         // The cell without its last number, with one more and with many more.
         vec![Cell(96)],
         vec![More(1)],
@@ -198,6 +254,33 @@ fn on_many_pages(page: usize, pages: usize) -> Vec<Vec<Harm>> {
         vec![Length((last + 2) * page - 1)],
         vec![Length(page)],
     ]
+}
+
+/// The smallest value with a page more than its bytes take, all numbers in the cell and an empty page
+/// at the first place, in the middle or at the last place.
+fn one_empty<R: Values>(comparison: &mut Comparison, form: Form) -> io::Result<()> {
+    let page = R::PAGE_SIZE;
+    let size = last_size(page, CELL_NUMBERS + 1) + 1;
+    let pages = total(page, size);
+    let numbers: Vec<u32> = (1..=pages as u32).collect();
+    for empty in [0, pages / 2, pages - 1] {
+        let mut left = size;
+        let laid: Vec<Laid> = numbers
+            .iter()
+            .enumerate()
+            .map(|(index, number)| {
+                let room = if index == empty { 0 } else { page - 4 };
+                let bytes = room.min(left);
+                left -= bytes;
+                (*number, vec![], bytes)
+            })
+            .collect();
+        let length = (pages + 1) * page;
+        let random = &mut Random::new(size as u64);
+        let case = Case::laid_out::<R>(length, size, &numbers, &laid, random)?;
+        comparison.check::<R>(form, &case)?;
+    }
+    Ok(())
 }
 
 /// A value of many pages, 1 and so on, with one page behind them.

@@ -1,10 +1,10 @@
-//! What values and page lookup give, written from document 01's words and from neither side's code.
+//! What values and page lookup give, written from the documents' words and from neither side's code.
 //! What stands on a page that is written, and in a cell, comes from the Rust.
 
 use mopsienna_sys::Reply;
 use nomt_plain::Cell;
 
-/// Refusals, by document 01's numbers.
+/// Refusals, by the documents' numbers.
 pub const BUFFER: u32 = 9;
 pub const SIZE: u32 = 10;
 pub const INDEX: u32 = 11;
@@ -15,6 +15,7 @@ pub const PAST_STORE: u32 = 15;
 pub const PAGE: u32 = 16;
 pub const NUMBERS: u32 = 17;
 pub const BYTES: u32 = 18;
+pub const EMPTY: u32 = 25;
 
 /// The greatest size of a value.
 pub const MAX_SIZE: usize = 1 << 29;
@@ -188,6 +189,9 @@ fn page<'a>(
     let bytes = little_endian(&head[2..]) as usize;
     if numbers + bytes > body.len() {
         return Err(PAGE);
+    }
+    if numbers + bytes == 0 {
+        return Err(EMPTY);
     }
     Ok((numbers_in(&body[..numbers]), &body[numbers..][..bytes]))
 }

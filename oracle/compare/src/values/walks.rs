@@ -155,7 +155,7 @@ impl Comparison<'_> {
         let store = case.store.bytes();
         let (most, class, size) = match model {
             Ok(walked) if expected.number == 0 => (7, &self.group[..], walked.size),
-            _ => (3, "", 0),
+            _ => (3, refused_at(expected), 0),
         };
         self.recorder
             .keep(most, class.into(), store.len() + value.len(), || {
@@ -168,7 +168,7 @@ impl Comparison<'_> {
                     .reply(expected)
                     .places(table, found(model, expected))
                     .places(value, size)
-                    .long(self.long_class(case, model, expected))
+                    .long(self.long_class(case, model, expected, table))
             });
     }
 
@@ -186,22 +186,20 @@ impl Comparison<'_> {
         };
         let store = case.store.bytes();
         let deleted = expected.number == 0;
-        let class = if deleted { &self.group } else { "" };
-        self.recorder.keep(
-            if deleted { 6 } else { 3 },
-            class.into(),
-            store.len(),
-            || {
-                Line::new(Kind::DeleteValue)
-                    .number(case.page_size as u64)
-                    .array(&case.cell)
-                    .array(store)
-                    .length(&expected_table)
-                    .reply(&expected)
-                    .places(&expected_table, found(model, &expected))
-                    .long(self.long_class(case, model, &expected))
-            },
-        );
+        let (most, class) = match deleted {
+            true => (6, &self.group[..]),
+            false => (3, refused_at(&expected)),
+        };
+        self.recorder.keep(most, class.into(), store.len(), || {
+            Line::new(Kind::DeleteValue)
+                .number(case.page_size as u64)
+                .array(&case.cell)
+                .array(store)
+                .length(&expected_table)
+                .reply(&expected)
+                .places(&expected_table, found(model, &expected))
+                .long(self.long_class(case, model, &expected, &expected_table))
+        });
         let reply = self
             .library
             .delete_value(form, &case.cell, store, &mut table);
@@ -214,18 +212,37 @@ impl Comparison<'_> {
         });
     }
 
-    /// What sets a long line apart, for values as they were written: the page size, and whether the
-    /// value has one page, more, or more than have their numbers in the cell.
+    /// What sets a long line apart beside the page size: for values as they were written, whether the
+    /// value has one page, more, or more than have their numbers in the cell; for empty pages, where
+    /// the table has more places than numbers were found, whether it is the first page.
     fn long_class(
         &self,
         case: &Case,
         model: &Result<Walked, Reply>,
         expected: &Reply,
+        table: &[u32],
     ) -> Option<String> {
-        let total = model.as_ref().ok()?.total;
-        let past_cell = total > model::CELL_NUMBERS;
-        (expected.number == 0 && self.group.ends_with("written"))
-            .then(|| format!("{} {past_cell} {}", case.page_size, total > 1))
+        let walked = model.as_ref().ok()?;
+        let total = walked.total;
+        let class = match expected.number {
+            0 if self.group.ends_with("written") => {
+                format!("{} {}", total > model::CELL_NUMBERS, total > 1)
+            }
+            model::EMPTY if walked.numbers.len() < table.len() => refused_at(expected).into(),
+            _ => return None,
+        };
+        Some(format!("{} {class}", case.page_size))
+    }
+}
+
+/// What sets a refusal apart: whether it is that of the first page, of a later one or of none.
+fn refused_at(expected: &Reply) -> &'static str {
+    match expected.number {
+        model::UNKNOWN | model::PAST_STORE | model::PAGE | model::EMPTY => match expected.out[0] {
+            0 => "first page",
+            _ => "later page",
+        },
+        _ => "",
     }
 }
 
