@@ -165,9 +165,9 @@ impl<'a> Comparison<'a> {
         written::each::<R>(self, form, extent, &mut random, cases)?;
         written::left_bytes::<R>(self)?;
         self.group = format!("{form}, other chains");
-        chains::each::<R>(self, form, &mut random, cases)?;
+        chains::each::<R>(self, form, chains::without_empty, &mut random, cases)?;
         self.group = format!("{form}, empty pages");
-        chains::with_empty::<R>(self, form, &mut random, cases / 2)?;
+        chains::each::<R>(self, form, chains::with_empty, &mut random, cases / 2)?;
         self.group = format!("{form}, any pages");
         chains::tangles::<R>(self, form, &mut random, cases)?;
         cells::each::<R>(self, &mut random, cases);

@@ -12,70 +12,58 @@ use mopsienna_sys::{Form, Reply};
 use nomt_plain::Values;
 use std::io;
 
-/// Passes on so many chains that are read: any count of numbers in the cell, the others anywhere on
-/// pages that come before they are needed, the bytes anywhere, some pages of bytes alone more than
-/// once.
+/// The size of a value, at pages of so many bytes, and how many empty pages its chain has.
+pub type Choice = fn(usize, &mut Random) -> (usize, usize);
+
+/// Any size up to some pages, and no empty page.
+pub fn without_empty(page_size: usize, random: &mut Random) -> (usize, usize) {
+    let most = last_size(page_size, random.pick(&[3, 15, 17, 30])) as u64;
+    (1 + random.below(most) as usize, 0)
+}
+
+/// A size that has more pages than the bytes take, as the numbers past the cell's have no room behind
+/// the bytes; and as many empty pages as these are more, or fewer.
+pub fn with_empty(page_size: usize, random: &mut Random) -> (usize, usize) {
+    let body = page_size - 4;
+    let past_cell = 1 + random.below(15) as usize;
+    let taken = CELL_NUMBERS + past_cell;
+    let too_little = body.min(4 * past_cell) as u64;
+    let size = body * taken - random.below(too_little) as usize;
+    let most = total(page_size, size) - taken;
+    (size, 1 + random.below(most as u64) as usize)
+}
+
+/// Passes on so many chains that the Rust reads: any count of numbers in the cell, the others anywhere
+/// on pages that come before they are needed, the bytes anywhere, empty pages anywhere, of which the
+/// first is refused, some pages without numbers more than once.
 pub fn each<R: Values>(
     comparison: &mut Comparison,
     form: Form,
+    choice: Choice,
     random: &mut Random,
     count: u64,
 ) -> io::Result<()> {
     for _ in 0..count {
-        let most = last_size(R::PAGE_SIZE, random.pick(&[3, 15, 17, 30])) as u64;
-        let size = 1 + random.below(most) as usize;
-        chain::<R>(comparison, form, size, 0, random)?;
-    }
-    Ok(())
-}
+        let (size, empty) = choice(R::PAGE_SIZE, random);
+        let pages = total(R::PAGE_SIZE, size);
+        let page_count = pages + 1 + random.below(3) as usize;
+        let numbers = distinct(pages, page_count, random);
+        let (cell, laid) = any_chain(R::PAGE_SIZE, size, empty, numbers, random);
+        let length = page_count * R::PAGE_SIZE;
+        let case = Case::laid_out::<R>(length, size, &cell, &laid, random)?;
 
-/// Passes on so many chains with empty pages anywhere, which the Rust reads. Their values have more
-/// pages than the bytes take: the numbers past the cell's have no room behind the bytes.
-pub fn with_empty<R: Values>(
-    comparison: &mut Comparison,
-    form: Form,
-    random: &mut Random,
-    count: u64,
-) -> io::Result<()> {
-    let body = R::PAGE_SIZE - 4;
-    for _ in 0..count {
-        let past_cell = 1 + random.below(15) as usize;
-        let taken = CELL_NUMBERS + past_cell;
-        let too_little = body.min(4 * past_cell) as u64;
-        let size = body * taken - random.below(too_little) as usize;
-        let most = total(R::PAGE_SIZE, size) - taken;
-        let empty = 1 + random.below(most as u64) as usize;
-        chain::<R>(comparison, form, size, empty, random)?;
+        let is_empty = |page: &Laid| page.1.is_empty() && page.2 == 0;
+        let reply = match laid.iter().position(is_empty) {
+            Some(index) => Reply::refusal(model::EMPTY, &[index as u64]),
+            None => Reply::answer(&[size as u64, pages as u64]),
+        };
+        let model = model::read(R::PAGE_SIZE, &case.cell, case.store.bytes());
+        let rust = unless_panic(|| R::read_value(&case.cell, case.store.file())).transpose()?;
+        if rust.is_none() || !model.is_ok_and(|walked| walked.reply == reply) {
+            comparison.reports[READ].disagree_at_call("the chain is none", || case.to_string());
+        }
+        comparison.check::<R>(form, &case)?;
     }
-    Ok(())
-}
-
-/// Passes on a chain of a value of this size with so many empty pages, of which the first is refused.
-fn chain<R: Values>(
-    comparison: &mut Comparison,
-    form: Form,
-    size: usize,
-    empty: usize,
-    random: &mut Random,
-) -> io::Result<()> {
-    let pages = total(R::PAGE_SIZE, size);
-    let page_count = pages + 1 + random.below(3) as usize;
-    let numbers = distinct(pages, page_count, random);
-    let (cell, laid) = any_chain(R::PAGE_SIZE, size, empty, numbers, random);
-    let length = page_count * R::PAGE_SIZE;
-    let case = Case::laid_out::<R>(length, size, &cell, &laid, random)?;
-
-    let is_empty = |page: &Laid| page.1.is_empty() && page.2 == 0;
-    let reply = match laid.iter().position(is_empty) {
-        Some(index) => Reply::refusal(model::EMPTY, &[index as u64]),
-        None => Reply::answer(&[size as u64, pages as u64]),
-    };
-    let model = model::read(R::PAGE_SIZE, &case.cell, case.store.bytes());
-    let rust = unless_panic(|| R::read_value(&case.cell, case.store.file())).transpose()?;
-    if rust.is_none() || model.is_ok_and(|walked| walked.reply != reply) {
-        comparison.reports[READ].disagree_at_call("the chain is none", || case.to_string());
-    }
-    comparison.check::<R>(form, &case)?;
     Ok(())
 }
 
