@@ -1,15 +1,22 @@
 -- Values and cells.
-use Rattle.std.specs.Prelude.{ℕ, ◌≡◌, List, [], ◌∷◌}
+use Rattle.std.specs.Prelude.{ℕ, ◌≡◌, List, [], ◌∷◌, length}
 use Rattle.refusal.specs.Effect.{Lent, LentMut, given, before, after, called, left, Returned, returned}
 use Rattle.overflow.specs.Cells.{CellCounts, cell_with, encode_cell_into, decode_cell_into}
+use Rattle.overflow.specs.Totals.{new_total, old_total}
 use Rattle.overflow.specs.ValuePages.{chunk_into}
 use Rattle.overflow.specs.Reading.{ValueCounts, read_lent, read_value_into, delete_into}
 
--- writing a page of a value, and writing a cell, tell no values
-abbrev pub WritesPage : ℕ → Lent → Lent → ℕ → LentMut → ℕ → Type 0
-WritesPage s value numbers index page r =
+-- writing a page of a value, by the one total or the other, and writing a cell, tell no values
+abbrev pub WritesPageBy : (ℕ → ℕ → ℕ) → ℕ → Lent → Lent → ℕ → LentMut → ℕ → Type 0
+WritesPageBy total s value numbers index page r =
     ◌≡◌ {A = Returned (List ℕ)} (record { status = r; lent = after page })
-    (returned (chunk_into s (given value) (given numbers) index (before page)))
+    (returned (chunk_into s (total s (length (given value))) (given value) (given numbers) index (before page)))
+
+abbrev pub WritesPage : ℕ → Lent → Lent → ℕ → LentMut → ℕ → Type 0
+WritesPage = WritesPageBy new_total
+
+abbrev pub WritesOldPage : ℕ → Lent → Lent → ℕ → LentMut → ℕ → Type 0
+WritesOldPage = WritesPageBy old_total
 
 abbrev pub EncodesCell : ℕ → ℕ → Lent → Lent → LentMut → ℕ → Type 0
 EncodesCell s size hash numbers buffer r =

@@ -16,12 +16,13 @@ impl Told for PageNumber {
 }
 
 impl Told for PageTotal {
-    ghost values = { λ t. t.total ∷ t.cell ∷ t.spare ∷ [] };
+    ghost values = { λ t. t.total ∷ t.cell ∷ t.spare ∷ t.room ∷ [] };
 
     fn tell(self, out: &mut [u64; 8]) {
         out[0] = self.total as u64;
         out[1] = self.cell as u64;
         out[2] = self.spare as u64;
+        out[3] = self.room as u64;
     }
 }
 
@@ -32,7 +33,7 @@ pub fn grow(page: u32, out: &mut [u64; 8]) -> u32
     report(page::growth::grow(PageNumber(page)), out)
 }
 
-// out: total, numbers in the cell, spare room.
+// out: total, numbers in the cell, spare room, places that a reader's number table needs.
 pub fn total(page_size: PageSize, size: u64, out: &mut [u64; 8]) -> u32
     ensures { TellsTotal page_size size out result }
 {

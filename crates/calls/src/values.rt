@@ -1,12 +1,14 @@
 // Values: writing their pages, their cells, reading and deleting.
 ghost use Rattle.std.specs.Prelude.{[], ◌∷◌};
-ghost use Rattle.calls.specs.Values.{WritesPage, EncodesCell, DecodesCell, ReadsValue, DeletesValue};
+ghost use Rattle.overflow.specs.Totals.{total_by};
+ghost use Rattle.calls.specs.Values.{WritesPageBy, EncodesCell, DecodesCell, ReadsValue, DeletesValue};
 
 use crate::told::{Told, report, status};
 use overflow::cell::ValueCounts;
 use overflow::chunk::chunk;
 use overflow::delete::delete;
 use overflow::read::read;
+use overflow::total::TotalRule;
 use page::size::PageSize;
 use page::store::Store;
 
@@ -28,17 +30,18 @@ impl Told for usize {
     }
 }
 
-// Writes page `index` of a value to the start of the page buffer.
+// Writes page `index` of a value, which has as many pages as the rule says, to the start of the page buffer.
 pub fn write_value_page(
     page_size: PageSize,
+    rule: TotalRule,
     value: &[u8],
     numbers: &[u32],
     index: u64,
     page: &mut [u8],
 ) -> u32
-    ensures { WritesPage page_size value numbers index page result }
+    ensures { WritesPageBy (total_by rule) page_size value numbers index page result }
 {
-    status(chunk(page_size, value, numbers, index as usize, page))
+    status(chunk(page_size, rule, value, numbers, index as usize, page))
 }
 
 // Writes a cell to the start of the cell buffer: its size, hash and numbers.

@@ -1,18 +1,16 @@
 -- Reading an input in parts prints its listing: what each turn puts, and what is left to print.
-use Prim.Native.Nat.{ℕ, suc, ◌+◌, ◌-◌, ◌≤◌, ◌<◌}
-use mathlib.Core.Path.{◌≡◌, refl, sym, ap, ◌∙◌}
+use Prim.Native.Nat.{ℕ, suc}
+use mathlib.Core.Path.{◌≡◌, refl}
 use mathlib.Core.Bool.{cond}
-use mathlib.Core.List.{List, [], ◌∷◌, ◌++◌, flat_map, append-nil}
+use mathlib.Core.List.{List, [], ◌∷◌, flat_map, append-nil}
 use native.Mathlib.Omega.{arith}
 use lib.Dec.{eqb}
-use lib.ListN.{length, take, drop, length-drop}
-use lib.Seq.{take_all, drop-drop}
+use lib.ListN.{length}
 use borrow.Author.Tests.{ne_eqb}
-use Rattle.listing.specs.Lines.{line_length, end_of_line, lines_after, size_of}
-use Rattle.listing.specs.Text.{size_text, line_text, header, listing}
+use Rattle.listing.specs.Lines.{lines_after}
+use Rattle.listing.specs.Text.{size_text, line_text}
 use Rattle.listing.specs.Accumulated.{no_bytes, with_bytes, accumulated_size}
-use Rattle.listing.proofs.LinesLaws.{lines-ended, lines_more}
-use Rattle.listing.proofs.AccumulatedLaws.{size-accumulated, with_bytes-append}
+use Rattle.listing.proofs.AccumulatedLaws.{size-accumulated}
 
 -- what is to be printed for an input, where `line` was read already
 unfoldable pub left : ℕ → List ℕ → List ℕ → List ℕ

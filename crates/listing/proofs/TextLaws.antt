@@ -13,8 +13,9 @@ use Rattle.refusal.specs.Outcome.{answer, check}
 use Rattle.laws.proofs.Tests.{cond_cases, and-true}
 use Rattle.page.specs.PageSize.{standard_page_size}
 use Rattle.page.proofs.PageSizeLaws.{page-size}
-use Rattle.overflow.specs.Totals.{Total, max_size, cell_numbers, raw_pages, total_pages, spare_room, total_of, page_total}
+use Rattle.overflow.specs.Totals.{Total, max_size, cell_numbers, holds, first_from, new_total, raw_pages, old_total, spare_room, total_of, page_total}
 use Rattle.overflow.proofs.TotalsLaws.{total_small}
+use Rattle.overflow.proofs.NewTotalLaws.{new_within}
 use Rattle.overflow.proofs.SpareLaws.{spare_small}
 use Rattle.listing.specs.Decimal.{is_digit, all_digits, decimal_after, decimal_of, digits_up_to, digits_of}
 use Rattle.listing.specs.Lines.{lines_after, size_of}
@@ -28,12 +29,12 @@ unfolding number_text
 length-number k n h = omega (arith, digits_few n k n h)
 
 -- the numbers told of a size
-length_answer : (n : ℕ) → n < 10 ^ 9 → length (outcome_text (answer (total_of standard_page_size n (total_pages standard_page_size n)))) ≤ 25
+length_answer : (n : ℕ) → 1 ≤ n → n < 10 ^ 9 → length (outcome_text (answer (total_of standard_page_size n (new_total standard_page_size n)))) ≤ 25
 unfolding outcome_text total_of
-length_answer n h =
-    let t : ℕ = total_pages standard_page_size n in
-    let few : t < 10 ^ 10 = omega (arith, total_small n page-size) in
-    let spare : spare_room standard_page_size n t < 10 ^ 10 = omega (arith, spare_small n page-size) in
+length_answer n some h =
+    let t : ℕ = new_total standard_page_size n in
+    let few : t < 10 ^ 10 = omega (arith, new_within page-size n some, total_small n page-size) in
+    let spare : spare_room standard_page_size n t < 10 ^ 10 = omega (arith, spare_small n page-size some) in
     simp length-append
     (omega (arith, length-number 9 t few, length-number 1 (min t cell_numbers) (omega arith), length-number 9 (spare_room standard_page_size n t) spare))
 
@@ -47,10 +48,12 @@ pub length_size : (n : ℕ) → length (digits_of n) ≤ 20 → length (size_tex
 unfolding size_text page_total max_size
 length_size n few =
     simp length-append
-    (omega (arith, length-check (leb 1 n && leb n (max_size standard_page_size)) (total_of standard_page_size n (total_pages standard_page_size n)) short))
+    (omega (arith, length-check (leb 1 n && leb n (max_size standard_page_size)) (total_of standard_page_size n (new_total standard_page_size n)) short))
   where
-    short : leb 1 n && leb n (max_size standard_page_size) ≡ true → length (outcome_text (answer (total_of standard_page_size n (total_pages standard_page_size n)))) ≤ 25
-    short e = length_answer n (omega (arith, leb-true n (max_size standard_page_size) (and-true (leb 1 n) (leb n (max_size standard_page_size)) e).1))
+    short : leb 1 n && leb n (max_size standard_page_size) ≡ true → length (outcome_text (answer (total_of standard_page_size n (new_total standard_page_size n)))) ≤ 25
+    short e =
+        let both = and-true (leb 1 n) (leb n (max_size standard_page_size)) e in
+        length_answer n (leb-true 1 n both.0) (omega (arith, leb-true n (max_size standard_page_size) both.1))
 
 pub length_header : length header ≤ max_text
 unfolding header
@@ -78,5 +81,5 @@ length_line line =
 -- the last line without its newline
 example : listing standard_page_size (codes "1\n61381\n0\n7a")
     ≡ codes "size pages cell spare\n1 1 1 4091\n61381 16 15 4087\n0 refused 10\nbad\n"
-unfolding max_size is_digit all_digits decimal_after digits_up_to raw_pages total_pages spare_room total_of page_total lines_after size_of number_text outcome_text size_text line_text header listing flat_map
+unfolding max_size is_digit all_digits decimal_after digits_up_to holds first_from new_total raw_pages old_total spare_room total_of page_total lines_after size_of number_text outcome_text size_text line_text header listing flat_map
 example = refl

@@ -2,6 +2,7 @@
 ghost use Rattle.page.specs.PageSize.{standard_page_size};
 ghost use Rattle.calls.specs.Values.{WritesPage, EncodesCell, DecodesCell, ReadsValue, DeletesValue};
 
+use overflow::total::TotalRule;
 use page::size::PageSize;
 
 // Writes page `index` of a value to the start of the page buffer.
@@ -14,7 +15,14 @@ pub extern "C" fn mopsienna_write_value_page(
 ) -> u32
     ensures { WritesPage standard_page_size value numbers index page result }
 {
-    calls::values::write_value_page(PageSize::standard(), value, numbers, index, page)
+    calls::values::write_value_page(
+        PageSize::standard(),
+        TotalRule::New,
+        value,
+        numbers,
+        index,
+        page,
+    )
 }
 
 // Writes a cell to the start of the cell buffer: its size, hash and numbers.

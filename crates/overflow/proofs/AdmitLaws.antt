@@ -13,10 +13,10 @@ use Rattle.laws.proofs.Tests.{and-true, and-true_right}
 use Rattle.refusal.specs.Outcome.{Outcome, answer, refused, check, with_answer}
 use Rattle.refusal.proofs.OutcomeLaws.{unanswer, check_answer, with_answer_answer, with_answer_refused}
 use Rattle.page.specs.PageSize.{IsPageSize}
-use Rattle.overflow.specs.Totals.{max_size, total_pages}
+use Rattle.overflow.specs.Totals.{max_size, old_total}
 use Rattle.overflow.specs.Cells.{Cell, cell_header, cell_of, decode_cell, CellCounts, cell_counts}
 use Rattle.overflow.specs.Reading.{admitted, numbers_room, bytes_room}
-use Rattle.overflow.specs.Steps.{needs_of, admitted_needs}
+use Rattle.overflow.specs.Steps.{needs_of, admitted_needs, TotalNeeds}
 use Rattle.overflow.specs.declared.cell.ValueCounts.{ValueCounts}
 use Rattle.overflow.proofs.TotalsLaws.{total_few}
 use Rattle.overflow.proofs.CellsLaws.{Decoding, decoded, not_decoded}
@@ -29,6 +29,15 @@ admitted_decoded s room cell e =
     let y = check_answer (leb 1 x.0.size) 10 [] (check (room x.0) 13 [] (answer x.0)) x.2 in
     let z = check_answer (room x.0) 13 [] (answer x.0) y.1 in
     (x.1 ∙ z.1, ap room (sym (unanswer z.1)) ∙ z.0)
+
+-- and its value has a byte
+admitted_some : (s : ℕ) (room : Cell → Bool) (cell : List ℕ) {c : Cell} → admitted s room cell ≡ answer c → 1 ≤ c.size
+unfolding admitted
+admitted_some s room cell {c} e =
+    let x = with_answer_answer (λ c. check (leb 1 c.size) 10 [] (check (room c) 13 [] (answer c))) (decode_cell s cell) e in
+    let y = check_answer (leb 1 x.0.size) 10 [] (check (room x.0) 13 [] (answer x.0)) x.2 in
+    let z = check_answer (room x.0) 13 [] (answer x.0) y.1 in
+    omega (arith, leb-true 1 x.0.size y.0, ap (λ (c : Cell). c.size) (unanswer z.1))
 
 module _ (s : ℕ) (cell : List ℕ) (numbers bytes : ℕ) where
   -- room for so many numbers and bytes
@@ -52,7 +61,7 @@ module _ (s : ℕ) (cell : List ℕ) (numbers bytes : ℕ) where
     unfolding admitted_needs admitted
     admit_empty z = rw (d.read, size_is, lt-leb 1 k.size (omega arith))
 
-    module _ (some : k.size ≢ 0) {total : ℕ} (t : total ≡ total_pages s k.size) where
+    module _ (some : k.size ≢ 0) {total : ℕ} (t : total ≡ old_total s k.size) where
       pub admit_numbers : numbers < total → refused 13 [] ≡ admitted_needs s numbers bytes cell
       unfolding admitted_needs admitted
       admit_numbers h = rw (d.read, size_is, le-leb 1 k.size (omega arith), ← t, lt-leb total numbers h)
@@ -76,6 +85,7 @@ module _ (s : ℕ) (cell : List ℕ) (numbers bytes : ℕ) where
     pub is : admitted s room cell ≡ answer (cell_of cell)
     pub needs_are : needs_of s (cell_of cell) ≡ needs
     pub long : cell_header ≤ length cell
+    pub total_needs : TotalNeeds s needs
     pub few : needs.numbers ≤ max_size s + 4
     pub numbers_room : needs.numbers ≤ numbers
     pub bytes_room : needs.size ≤ bytes
@@ -88,14 +98,19 @@ module _ (s : ℕ) (cell : List ℕ) (numbers bytes : ℕ) where
       let d = decoded s cell a.0 in
       let needs_are : needs_of s (cell_of cell) ≡ needs = ap (needs_of s) (sym d.1) ∙ unanswer w.2 in
       let size_is : (cell_of cell).size ≡ needs.size = ap (λ (n : ValueCounts). n.size) needs_are in
-      let total_is : total_pages s (cell_of cell).size ≡ needs.numbers = ap (λ (n : ValueCounts). n.numbers) needs_are in
+      let total_is : old_total s (cell_of cell).size ≡ needs.numbers = ap (λ (n : ValueCounts). n.numbers) needs_are in
       let both = and-true (numbers_room s numbers (cell_of cell)) (bytes_room bytes (cell_of cell)) (ap room (sym d.1) ∙ a.1) in
       record {
         is = w.1 ∙ ap answer d.1;
         needs_are = needs_are;
         long = omega (arith, d.0.long);
+        total_needs = record {
+          some = omega (arith, (admitted_some s room cell w.1), ap (λ (c : Cell). c.size) (sym d.1), size_is);
+          few = omega (arith, d.0.few, size_is);
+          old = sym total_is ∙ ap (old_total s) size_is;
+        };
         few = omega (arith, total_few (cell_of cell).size page d.0.few, total_is);
-        numbers_room = omega (arith, leb-true (total_pages s (cell_of cell).size) numbers both.0, total_is);
+        numbers_room = omega (arith, leb-true (old_total s (cell_of cell).size) numbers both.0, total_is);
         bytes_room = omega (arith, leb-true (cell_of cell).size bytes both.1, size_is);
       }
 

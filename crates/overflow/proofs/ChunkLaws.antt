@@ -14,7 +14,7 @@ use Rattle.refusal.specs.Outcome.{answer, refused}
 use Rattle.refusal.specs.Effect.{effect}
 use Rattle.page.specs.PageSize.{IsPageSize}
 use Rattle.page.proofs.PageSizeLaws.{page_least}
-use Rattle.overflow.specs.Totals.{max_size, cell_numbers, total_pages}
+use Rattle.overflow.specs.Totals.{max_size, cell_numbers}
 use Rattle.overflow.specs.Layout.{numbers_before, numbers_on, bytes_before, bytes_on}
 use Rattle.overflow.specs.ValuePages.{encode_value_page, value_page, chunk, chunk_into}
 use Rattle.overflow.proofs.TotalsLaws.{max_size_lem}
@@ -93,37 +93,37 @@ page_put {s} {total = total} i same is_size value numbers buffer {page} p whole 
 
 -- ---- the tests
 
-module _ (s : ℕ) (value numbers : List ℕ) (i : ℕ) (buffer : List ℕ) where
+module _ (s total : ℕ) (value numbers : List ℕ) (i : ℕ) (buffer : List ℕ) where
   -- a size that no value has
-  pub chunk_empty : length value ≡ 0 → effect (refused 10 []) buffer ≡ chunk_into s value numbers i buffer
+  pub chunk_empty : length value ≡ 0 → effect (refused 10 []) buffer ≡ chunk_into s total value numbers i buffer
   unfolding chunk_into chunk
   chunk_empty e = rw (lt-leb 1 (length value) (omega arith))
 
-  pub chunk_large : max_size s < length value → effect (refused 10 []) buffer ≡ chunk_into s value numbers i buffer
+  pub chunk_large : max_size s < length value → effect (refused 10 []) buffer ≡ chunk_into s total value numbers i buffer
   unfolding chunk_into chunk
   chunk_large h = rw (le-leb 1 (length value) (omega arith), lt-leb (length value) (max_size s) h)
 
-  module _ (some : length value ≡ 0 → ⊥) (few : length value ≤ max_size s) {total : ℕ} (t : total ≡ total_pages s (length value)) where
+  module _ (some : 1 ≤ length value) (few : length value ≤ max_size s) where
     -- numbers that are not as many as the pages
-    pub chunk-numbers : (length numbers ≡ total → ⊥) → effect (refused 11 []) buffer ≡ chunk_into s value numbers i buffer
+    pub chunk-numbers : (length numbers ≡ total → ⊥) → effect (refused 11 []) buffer ≡ chunk_into s total value numbers i buffer
     unfolding chunk_into chunk
-    chunk-numbers ne = rw (le-leb 1 (length value) (omega arith), le-leb (length value) (max_size s) few, ← t, ne_eqb (length numbers) total ne)
+    chunk-numbers ne = rw (le-leb 1 (length value) some, le-leb (length value) (max_size s) few, ne_eqb (length numbers) total ne)
 
     module _ (whole : length numbers ≡ total) where
       -- a page that the value does not have
-      pub chunk-index : total ≤ i → effect (refused 11 []) buffer ≡ chunk_into s value numbers i buffer
+      pub chunk-index : total ≤ i → effect (refused 11 []) buffer ≡ chunk_into s total value numbers i buffer
       unfolding chunk_into chunk
-      chunk-index h = rw (le-leb 1 (length value) (omega arith), le-leb (length value) (max_size s) few, ← t, eq-eqb (length numbers) total whole, le-ltb i total h)
+      chunk-index h = rw (le-leb 1 (length value) some, le-leb (length value) (max_size s) few, eq-eqb (length numbers) total whole, le-ltb i total h)
 
       module _ (inside : i < total) where
         -- a buffer shorter than a page
-        pub chunk-short : length buffer < s → effect (refused 9 []) buffer ≡ chunk_into s value numbers i buffer
+        pub chunk-short : length buffer < s → effect (refused 9 []) buffer ≡ chunk_into s total value numbers i buffer
         unfolding chunk_into chunk
         chunk-short h =
-            rw (le-leb 1 (length value) (omega arith), le-leb (length value) (max_size s) few, ← t, eq-eqb (length numbers) total whole, lt-ltb i total inside, lt-leb s (length buffer) h)
+            rw (le-leb 1 (length value) some, le-leb (length value) (max_size s) few, eq-eqb (length numbers) total whole, lt-ltb i total inside, lt-leb s (length buffer) h)
 
         -- the page
-        pub chunk-written : IsPageSize s → s ≤ length buffer → effect (answer s) (sets buffer 0 (value_page s total value numbers i)) ≡ chunk_into s value numbers i buffer
+        pub chunk-written : IsPageSize s → s ≤ length buffer → effect (answer s) (sets buffer 0 (value_page s total value numbers i)) ≡ chunk_into s total value numbers i buffer
         unfolding chunk_into chunk
         chunk-written page h =
-            rw (le-leb 1 (length value) (omega arith), le-leb (length value) (max_size s) few, ← t, eq-eqb (length numbers) total whole, lt-ltb i total inside, le-leb s (length buffer) h, length_value_page page value numbers whole i)
+            rw (le-leb 1 (length value) some, le-leb (length value) (max_size s) few, eq-eqb (length numbers) total whole, lt-ltb i total inside, le-leb s (length buffer) h, length_value_page page value numbers whole i)

@@ -1,5 +1,6 @@
 -- Laws about the definitions of this crate, for the proofs here and above.
 pub mod TotalsLaws
+pub mod NewTotalLaws
 pub mod LayoutLaws
 pub mod ValuePagesLaws
 pub mod WithinLaws
@@ -12,6 +13,7 @@ pub mod CopyingLaws
 pub mod AdmitLaws
 pub mod ReadLaws
 pub mod LocalLaws
+pub mod FirstLaws
 pub mod WrittenLaws
 pub mod ReadBackLaws
 pub mod SpareLaws

@@ -8,7 +8,7 @@ use native.Mathlib.Decide.{dec_lt}
 use native.Mathlib.Omega.{arith}
 use borrow.Author.Tests.{le-leb, lt-leb, le-ltb, lt-ltb, ltb-true, leb-true}
 use lib.Dec.{leb, ltb}
-use lib.ListN.{length, drop, length-drop}
+use lib.ListN.{length, drop, length-drop, length-take}
 use lib.Seq.{length-take-le}
 use Rattle.refusal.specs.Outcome.{answer, refused}
 use Rattle.refusal.proofs.OutcomeLaws.{unanswer, check_answer, with_answer_answer}
@@ -45,6 +45,11 @@ pub length-value_bytes : {s : ℕ} (b : List ℕ) → length b ≡ s → Fits s 
 unfolding value_bytes
 length-value_bytes b long fits =
     length-take-le (byte_count b) (drop (4 + 4 * number_count b) b) (omega (arith, length-drop (4 + 4 * number_count b) b))
+
+-- and never more
+pub value_bytes_few : (b : List ℕ) → length (value_bytes b) ≤ byte_count b
+unfolding value_bytes
+value_bytes_few b = omega (arith, length-take (byte_count b) (drop (4 + 4 * number_count b) b))
 
 -- and such a page has its header
 pub fitting_numbers : {s : ℕ} (b : List ℕ) → length b ≡ s → Fits s b → numbers_within b ≡ number_count b

@@ -6,19 +6,19 @@ use mathlib.Core.Bool.{◌&&◌}
 use mathlib.Core.List.{List, []}
 use native.Mathlib.Nat.{mul-suc, mul-zero}
 use native.Mathlib.Omega.{arith}
-use borrow.Author.Tests.{ltb-false}
+use borrow.Author.Tests.{ltb-false, leb-true}
 use lib.Dec.{leb, ltb}
 use lib.ListN.{length}
 use Rattle.refusal.specs.Outcome.{answer}
 use Rattle.refusal.proofs.OutcomeLaws.{unanswer, check_answer}
-use Rattle.laws.proofs.Tests.{cond_cases}
+use Rattle.laws.proofs.Tests.{cond_cases, and-true}
 use Rattle.page.specs.PageSize.{IsPageSize}
 use Rattle.page.proofs.PageSizeLaws.{page_least}
-use Rattle.overflow.specs.Totals.{max_size, cell_numbers, body, total_pages, spare_room, Total, total_of, page_total}
+use Rattle.overflow.specs.Totals.{max_size, cell_numbers, body, new_total, spare_room, Total, total_of, page_total}
 use Rattle.overflow.specs.Layout.{numbers_before, bytes_before}
 use Rattle.overflow.specs.ValuePages.{number_count, byte_count, value_page}
 use Rattle.overflow.specs.Theorems.{left_on, left_on_pages, SpareIsLeft, PageWhole, BodiesWhole}
-use Rattle.overflow.proofs.TotalsLaws.{total_enough, total_tight}
+use Rattle.overflow.proofs.NewTotalLaws.{new_enough, new_tight}
 use Rattle.overflow.proofs.LayoutLaws.{numbers_all, bytes_all, numbers_before_suc, bytes_before_suc}
 use Rattle.overflow.proofs.ValuePagesLaws.{length_value_page, number_count_value_page, byte_count_value_page, value_page_fits}
 
@@ -56,15 +56,17 @@ spare_rest s size total enough =
     cond_cases (λ (room : ℕ). room + (size + 4 * (total - cell_numbers)) ≡ body s * total) (ltb cell_numbers total) _ _ (λ _. omega arith)
     (λ e. omega (arith, ltb-false cell_numbers total e))
 
--- of the total's pages it is less than one body
-pub spare_small : {s : ℕ} (size : ℕ) → IsPageSize s → spare_room s size (total_pages s size) < body s
-spare_small {s} size page =
-    omega (arith, spare_rest s size (total_pages s size) (total_enough size page), total_tight size page)
+-- of the new total's pages it is less than one body
+pub spare_small : {s : ℕ} (size : ℕ) → IsPageSize s → 1 ≤ size → spare_room s size (new_total s size) < body s
+spare_small {s} size page some =
+    omega (arith, spare_rest s size (new_total s size) (new_enough size page some), new_tight size page some)
 
--- a property of what is told of a size, from that of its total
-told : (s size : ℕ) (Q : Total → Type 0) → Q (total_of s size (total_pages s size)) → (t : Total) → page_total s size ≡ answer t → Q t
+-- a property of what is told of a size that a value can have, from that of its total
+told : (s size : ℕ) (Q : Total → Type 0) → (1 ≤ size → Q (total_of s size (new_total s size))) → (t : Total) → page_total s size ≡ answer t → Q t
 unfolding page_total
-told s size Q q t e = subst Q (unanswer (check_answer (leb 1 size && leb size (max_size s)) 10 [] (answer (total_of s size (total_pages s size))) e).1) q
+told s size Q q t e =
+    let c = check_answer (leb 1 size && leb size (max_size s)) 10 [] (answer (total_of s size (new_total s size))) e in
+    subst Q (unanswer c.1) (q (leb-true 1 size (and-true (leb 1 size) (leb size (max_size s)) c.0).0))
 
 -- ---- the statements
 
@@ -73,13 +75,13 @@ unfolding total_of
 spare_is_left {s} page value numbers =
     let size = length value in
     told s size (λ (t : Total). length numbers ≡ t.total → t.spare ≡ left_on_pages s t.total value numbers t.total)
-    (λ whole. omega (arith, left_all page value numbers whole (total_enough size page), spare_rest s size (total_pages s size) (total_enough size page)))
+    (λ some whole. let enough = new_enough size page some in omega (arith, left_all page value numbers whole enough, spare_rest s size (new_total s size) enough))
 
 pub page_whole : {s : ℕ} → IsPageSize s → PageWhole s
-page_whole page value numbers i whole = page_whole_of page value numbers whole i
+page_whole page total value numbers i whole = page_whole_of page value numbers whole i
 
 pub bodies_whole : {s : ℕ} → IsPageSize s → BodiesWhole s
 unfolding total_of
 bodies_whole {s} page size =
     told s size (λ (t : Total). size + 4 * t.total + t.spare ≡ body s * t.total + 4 * t.cell)
-    (omega (arith, spare_rest s size (total_pages s size) (total_enough size page)))
+    (λ some. omega (arith, spare_rest s size (new_total s size) (new_enough size page some)))

@@ -21,8 +21,8 @@ use Rattle.laws.proofs.SetsLaws.{sets-append}
 use Rattle.overflow.specs.ValuePages.{number_count, byte_count, value_numbers, value_bytes, numbers_within, bytes_within}
 use Rattle.overflow.specs.Cells.{cell_header, cell_count, cell_of}
 use Rattle.overflow.specs.Reading.{Source, in_store, parse_page, Found, with_page, in_cell, Walked, ended, onward, walk, table_after}
-use Rattle.overflow.specs.Steps.{visit_into, counts_with, resumed, walk_table, start_counts, walk_counts, walk_into}
-use Rattle.overflow.specs.declared.cell.ValueCounts.{ValueCounts}
+use Rattle.overflow.specs.Steps.{visit_into, counts_with, resumed, walk_table, start_counts, walk_counts, SmallCounts, walk_into, first_walk_into}
+use Rattle.overflow.specs.declared.walk.WalkCounts.{WalkCounts}
 use Rattle.overflow.proofs.ParseLaws.{Fits, Paged, Parsed, length-value_numbers, length-value_bytes, fitting_numbers, fitting_bytes, parse_answer, store_paged}
 
 -- ---- a queue in a table
@@ -86,17 +86,17 @@ module _ (s : ℕ) (source : Source) (total i known : ℕ) (table : List ℕ) wh
 -- ---- the walk
 
 module _ {s : ℕ} (source : Source) (paged : Paged s source) (total : ℕ) (table : List ℕ) (room : total ≤ length table) where
-  -- what is found, in numbers, and the table that holds it
-  abbrev found_counts_of : Found → ValueCounts
-  found_counts_of f = record { size = length f.bytes; numbers = length f.numbers }
+  -- what is found before page i, in numbers, and the table that holds it
+  abbrev counts_of : ℕ → Found → WalkCounts
+  counts_of i f = record { pages = i; size = length f.bytes; numbers = length f.numbers }
 
   abbrev table_of : Found → List ℕ
   table_of f = sets table 0 (take total f.numbers)
 
   -- one page more
-  counts_more : (f : Found) (b : List ℕ) → length b ≡ s → Fits s b → counts_with (found_counts_of f) b ≡ found_counts_of (with_page f b)
-  counts_more f b long fits =
-      rw (length-append f.numbers (value_numbers b), length-append f.bytes (value_bytes b), length-value_numbers b, length-value_bytes b long fits, fitting_numbers b long fits, fitting_bytes b long fits)
+  counts_more : (i : ℕ) (f : Found) (b : List ℕ) → length b ≡ s → Fits s b → counts_with (counts_of i f) b ≡ counts_of (suc i) (with_page f b)
+  counts_more i f b long fits =
+      rw (add-one i, length-append f.numbers (value_numbers b), length-append f.bytes (value_bytes b), length-value_numbers b, length-value_bytes b long fits, fitting_numbers b long fits, fitting_bytes b long fits)
 
   -- the page that is next: from the table, and from what is found
   next-page : (i : ℕ) (f : Found) → i < total
@@ -110,24 +110,24 @@ module _ {s : ℕ} (source : Source) (paged : Paged s source) (total : ℕ) (tab
       known (yes k) = rw (get_d_queued table f.numbers total i room h k)
       known (no k) = let past : length f.numbers ≤ i = omega arith in rw (le-ltb i (length f.numbers) past)
 
-  module _ (deleting : Bool) where
+  module _ (to_bytes : Bool) where
     -- the rest of the walk is the same by the table and by what is found
     abbrev Same : ℕ → ℕ → Found → Type 0
     Same left i f =
-        let w = walk s source deleting left i f in
-        walk_table s source deleting total left i (found_counts_of f) (table_of f) ≡ effect (walk_counts w) (table_after total table w)
+        let w = walk s source to_bytes left i f in
+        walk_table s source to_bytes total left (counts_of i f) (table_of f) ≡ effect (walk_counts w) (table_after total table w)
 
     -- so it is with one page more to go
     module _ (left i : ℕ) (f : Found) (again : (b : List ℕ) → Same left (suc i) (with_page f b)) where
       abbrev next : List ℕ → Walked
-      next b = cond (deleting && leb 1 (byte_count b)) (ended (with_page f b)) (walk s source deleting left (suc i) (with_page f b))
+      next b = cond (to_bytes && leb 1 (byte_count b)) (ended (suc i) (with_page f b)) (walk s source to_bytes left (suc i) (with_page f b))
 
-      abbrev resume : List ℕ → List ℕ → Effect ValueCounts (List ℕ)
-      resume b t = cond (deleting && leb 1 (bytes_within b)) (effect (answer (counts_with (found_counts_of f) b)) t) (walk_table s source deleting total left (suc i) (counts_with (found_counts_of f) b) t)
+      abbrev resume : List ℕ → List ℕ → Effect WalkCounts (List ℕ)
+      resume b t = cond (to_bytes && leb 1 (bytes_within b)) (effect (answer (counts_with (counts_of i f) b)) t) (walk_table s source to_bytes total left (counts_with (counts_of i f) b) t)
 
       by_test : (b : List ℕ) (last : Bool)
-          → let w = cond last (ended (with_page f b)) (walk s source deleting left (suc i) (with_page f b)) in
-          cond last (effect (answer (found_counts_of (with_page f b))) (table_of (with_page f b))) (walk_table s source deleting total left (suc i) (found_counts_of (with_page f b)) (table_of (with_page f b)))
+          → let w = cond last (ended (suc i) (with_page f b)) (walk s source to_bytes left (suc i) (with_page f b)) in
+          cond last (effect (answer (counts_of (suc i) (with_page f b))) (table_of (with_page f b))) (walk_table s source to_bytes total left (counts_of (suc i) (with_page f b)) (table_of (with_page f b)))
           ≡ effect (walk_counts w) (table_after total table w)
       by_test b true = refl
       by_test b false = again b
@@ -138,7 +138,7 @@ module _ {s : ℕ} (source : Source) (paged : Paged s source) (total : ℕ) (tab
       by_page (answer b) fits =
           let p = fits b refl in
           let long = paged i (get_or f.numbers i 0) b p.from in
-          rw (sets_queued table f.numbers (value_numbers b) total, counts_more f b long p.fits, fitting_bytes b long p.fits) (by_test b (deleting && leb 1 (byte_count b)))
+          rw (sets_queued table f.numbers (value_numbers b) total, counts_more i f b long p.fits, fitting_bytes b long p.fits) (by_test b (to_bytes && leb 1 (byte_count b)))
       by_page (refused n vs) fits = refl
 
     pub table-walk : (left i : ℕ) (f : Found) → i + left ≤ total → Same left i f
@@ -150,78 +150,87 @@ module _ {s : ℕ} (source : Source) (paged : Paged s source) (total : ℕ) (tab
         (by_page left i f (λ b. table-walk left (suc i) (with_page f b) (omega arith)) (check (ltb i (length f.numbers)) 14 (i ∷ []) (parse_page s source i p))
         (λ b e. parse_answer s source i p (check_answer (ltb i (length f.numbers)) 14 (i ∷ []) (parse_page s source i p) e).1))
 
--- the whole walk, from the numbers of a cell
-pub walk_whole : (s : ℕ) (store : List ℕ) (deleting : Bool) (table cell : List ℕ)
+-- the walk from the numbers of a cell
+pub first_whole : (s : ℕ) (store table cell : List ℕ)
     → {known : ℕ} {first : List ℕ} → known ≡ cell_count cell → first ≡ sets table 0 (take (length table - 0) (numbers_at 4 cell cell_header known))
-    → walk_table s (in_store s store) deleting (length first) (length first) 0 (start_counts known) first ≡ walk_into s store deleting (length table) cell table
-unfolding walk_into cell_of
-walk_whole s store deleting table cell {known} e t =
+    → walk_into s (in_store s store) true (start_counts known) first ≡ first_walk_into s store cell table
+unfolding walk_into first_walk_into cell_of
+first_whole s store table cell {known} e t =
     let count = length-numbers_at 4 cell cell_header (cell_count cell) in
     let long = ap length t ∙ length-sets table 0 (take (length table - 0) (numbers_at 4 cell cell_header known)) in
     rw (long, t, e, sub-zero (length table))
-    (rw count at (table-walk (in_store s store) (store_paged s store) (length table) table (omega arith) deleting (length table) 0 (in_cell (cell_of cell)) (omega arith)))
+    (rw count at (table-walk (in_store s store) (store_paged s store) (length table) table (omega arith) true (length table) 0 (in_cell (cell_of cell)) (omega arith)))
 
 -- ---- the loop
 
-module _ (s : ℕ) (source : Source) (deleting : Bool) (total : ℕ) where
+module _ (s : ℕ) (source : Source) (to_bytes : Bool) (total : ℕ) where
   -- a page that stops the walk, one that ends it, and one after which it goes on
-  table_stop : (left i : ℕ) (f : ValueCounts) (table : List ℕ) {next : List ℕ} {n : ℕ} {vs : List ℕ} → effect (refused n vs) next ≡ visit_into s source total i f.numbers table
-      → walk_table s source deleting total (suc left) i f table ≡ effect (refused n vs) next
+  table_stop : (left : ℕ) (f : WalkCounts) (table : List ℕ) {next : List ℕ} {n : ℕ} {vs : List ℕ} → effect (refused n vs) next ≡ visit_into s source total f.pages f.numbers table
+      → walk_table s source to_bytes total (suc left) f table ≡ effect (refused n vs) next
   unfolding walk_table
-  table_stop left i f table e = rw (← e)
+  table_stop left f table e = rw (← e)
 
-  table_end : (left i : ℕ) (f : ValueCounts) (table : List ℕ) {b next : List ℕ} → effect (answer b) next ≡ visit_into s source total i f.numbers table → deleting && leb 1 (bytes_within b) ≡ true
-      → walk_table s source deleting total (suc left) i f table ≡ effect (answer (counts_with f b)) next
+  table_end : (left : ℕ) (f : WalkCounts) (table : List ℕ) {b next : List ℕ} → effect (answer b) next ≡ visit_into s source total f.pages f.numbers table → to_bytes && leb 1 (bytes_within b) ≡ true
+      → walk_table s source to_bytes total (suc left) f table ≡ effect (answer (counts_with f b)) next
   unfolding walk_table
-  table_end left i f table e h = rw (← e, h)
+  table_end left f table e h = rw (← e, h)
 
-  table_step : (left i : ℕ) (f : ValueCounts) (table : List ℕ) {b next : List ℕ} → effect (answer b) next ≡ visit_into s source total i f.numbers table → deleting && leb 1 (bytes_within b) ≡ false
-      → walk_table s source deleting total (suc left) i f table ≡ walk_table s source deleting total left (suc i) (counts_with f b) next
+  table_step : (left : ℕ) (f : WalkCounts) (table : List ℕ) {b next : List ℕ} → effect (answer b) next ≡ visit_into s source total f.pages f.numbers table → to_bytes && leb 1 (bytes_within b) ≡ false
+      → walk_table s source to_bytes total (suc left) f table ≡ walk_table s source to_bytes total left (counts_with f b) next
   unfolding walk_table
-  table_step left i f table e h = rw (← e, h)
+  table_step left f table e h = rw (← e, h)
 
--- where the loop stands after i pages: what is left to do is the rest of the whole walk, and the counts are small
-pub record Walking (s : ℕ) (source : Source) (deleting : Bool) (known : ℕ) (table₀ table : List ℕ) (f : ValueCounts) (i : ℕ) : Type 0 where
+-- where the loop stands before page i: what is left to do is the rest of the walk, and the counts are small
+pub record Walking (s : ℕ) (source : Source) (to_bytes : Bool) (from : WalkCounts) (table₀ table : List ℕ) (f : WalkCounts) (i : ℕ) : Type 0 where
   pub long : length table ≡ length table₀
-  pub rest : walk_table s source deleting (length table₀) (length table₀) 0 (start_counts known) table₀ ≡ walk_table s source deleting (length table₀) (length table₀ - i) i f table
-  pub numbers_few : f.numbers ≤ known + 65535 * i
-  pub bytes_few : f.size ≤ 65535 * i
+  pub place : f.pages ≡ i
+  pub rest : walk_into s source to_bytes from table₀ ≡ walk_table s source to_bytes (length table₀) (length table₀ - i) f table
+  pub small : SmallCounts f
 
-module _ {s : ℕ} {source : Source} {deleting : Bool} {known : ℕ} {table₀ table : List ℕ} {f : ValueCounts} {i : ℕ}
-    (w : Walking s source deleting known table₀ table f i) where
+-- at its start
+pub walking_from : (s : ℕ) (source : Source) (to_bytes : Bool) (from : WalkCounts) (table : List ℕ) → SmallCounts from → Walking s source to_bytes from table table from from.pages
+unfolding walk_into
+walking_from s source to_bytes from table small = record { long = refl; place = refl; rest = refl; small = small }
+
+module _ {s : ℕ} {source : Source} {to_bytes : Bool} {from : WalkCounts} {table₀ table : List ℕ} {f : WalkCounts} {i : ℕ}
+    (w : Walking s source to_bytes from table₀ table f i) where
   -- no page is left
-  pub walking_done : length table₀ ≤ i → effect (answer f) table ≡ walk_table s source deleting (length table₀) (length table₀) 0 (start_counts known) table₀
+  pub walking_done : length table₀ ≤ i → effect (answer f) table ≡ walk_into s source to_bytes from table₀
   unfolding walk_table
   walking_done h =
       let none : length table₀ - i ≡ 0 = omega arith in
-      sym (w.rest ∙ ap (λ (k : ℕ). walk_table s source deleting (length table₀) k i f table) none)
+      sym (w.rest ∙ ap (λ (k : ℕ). walk_table s source to_bytes (length table₀) k f table) none)
 
   module _ (some : i < length table₀) where
-    rest_suc : walk_table s source deleting (length table₀) (length table₀) 0 (start_counts known) table₀ ≡ walk_table s source deleting (length table₀) (suc (length table₀ - (i + 1))) i f table
+    rest_suc : walk_into s source to_bytes from table₀ ≡ walk_table s source to_bytes (length table₀) (suc (length table₀ - (i + 1))) f table
     rest_suc =
         let one : length table₀ - i ≡ suc (length table₀ - (i + 1)) = omega arith in
-        w.rest ∙ ap (λ (k : ℕ). walk_table s source deleting (length table₀) k i f table) one
+        w.rest ∙ ap (λ (k : ℕ). walk_table s source to_bytes (length table₀) k f table) one
 
     -- the next page stops the walk
     pub walking_stopped : {next : List ℕ} {n : ℕ} {vs : List ℕ} → effect (refused n vs) next ≡ visit_into s source (length table) i f.numbers table
-        → effect (refused n vs) next ≡ walk_table s source deleting (length table₀) (length table₀) 0 (start_counts known) table₀
-    walking_stopped e = sym (rest_suc ∙ table_stop s source deleting (length table₀) (length table₀ - (i + 1)) i f table (rw w.long at e))
+        → effect (refused n vs) next ≡ walk_into s source to_bytes from table₀
+    walking_stopped e = sym (rest_suc ∙ table_stop s source to_bytes (length table₀) (length table₀ - (i + 1)) f table (rw (w.long, ← w.place) at e))
 
     module _ {b next : List ℕ} (e : effect (answer b) next ≡ visit_into s source (length table) i f.numbers table)
         {n m : ℕ} (numbers : n ≡ numbers_within b) (bytes : m ≡ bytes_within b) where
+      -- the counts with it
+      counted : counts_with f b ≡ record { pages = i + 1; size = f.size + m; numbers = f.numbers + n }
+      counted = rw (numbers, bytes, w.place)
+
       -- the next page ends it
-      pub walking_ended : deleting && leb 1 m ≡ true
-          → effect (answer (record { size = f.size + m; numbers = f.numbers + n })) next ≡ walk_table s source deleting (length table₀) (length table₀) 0 (start_counts known) table₀
+      pub walking_ended : to_bytes && leb 1 m ≡ true
+          → effect (answer (record { pages = i + 1; size = f.size + m; numbers = f.numbers + n })) next ≡ walk_into s source to_bytes from table₀
       walking_ended h =
-          rw (numbers, bytes) (sym (rest_suc ∙ table_end s source deleting (length table₀) (length table₀ - (i + 1)) i f table (rw w.long at e) (rw bytes at h)))
+          rw (← counted) (sym (rest_suc ∙ table_end s source to_bytes (length table₀) (length table₀ - (i + 1)) f table (rw (w.long, ← w.place) at e) (rw bytes at h)))
 
       -- the next page is taken
-      pub walking_next : length next ≡ length table → n ≤ 65535 → m ≤ 65535 → deleting && leb 1 m ≡ false
-          → Walking s source deleting known table₀ next (record { size = f.size + m; numbers = f.numbers + n }) (i + 1)
+      pub walking_next : length next ≡ length table → n ≤ 65535 → m ≤ 65535 → to_bytes && leb 1 m ≡ false
+          → Walking s source to_bytes from table₀ next (record { pages = i + 1; size = f.size + m; numbers = f.numbers + n }) (i + 1)
       walking_next same few short h =
           record {
             long = same ∙ w.long;
-            rest = rw (numbers, bytes) (rest_suc ∙ rw (← add-one i) at (table_step s source deleting (length table₀) (length table₀ - (i + 1)) i f table (rw w.long at e) (rw bytes at h)));
-            numbers_few = omega (arith, w.numbers_few);
-            bytes_few = omega (arith, w.bytes_few);
+            place = refl;
+            rest = rw (← counted) (rest_suc ∙ table_step s source to_bytes (length table₀) (length table₀ - (i + 1)) f table (rw (w.long, ← w.place) at e) (rw bytes at h));
+            small = record { size = omega (arith, w.small.size, w.place); numbers = omega (arith, w.small.numbers, w.place) };
           }

@@ -1,18 +1,17 @@
 -- The total is enough for the value and the numbers that the cell has no place for, and with one page less there would be bytes left.
 -- By the two cases of the rule (`total_cases`), each an inequality of a quotient.
-use Prim.Native.Nat.{ℕ, zero, suc, ◌+◌, ◌*◌, ◌-◌, ◌/◌, ◌%◌, ◌^◌, min, ◌≤◌, ◌<◌}
+use Prim.Native.Nat.{ℕ, zero, suc, ◌+◌, ◌*◌, ◌-◌, ◌/◌, ◌^◌, ◌≤◌, ◌<◌}
 use mathlib.Core.Path.{◌≡◌, sym, subst, subst⁻¹}
 use mathlib.Core.Logic.{⊎_elim}
 use mathlib.Core.Bool.{true, false, ◌||◌}
-use native.Mathlib.Nat.{lt-div-mul-add, div-mul-le_self, div-eq_of_lt-le, mul-le-mul_right, mul-add, add-mul, one-mul, mul-suc, mul-zero}
-use Rattle.std.proofs.lemmas.Grind.{div_ceil_times}
+use native.Mathlib.Nat.{lt-div-mul-add, div-mul-le_self, mul-le-mul_right, mul-add, mul-suc, mul-zero}
 use native.Mathlib.Omega.{arith}
 use borrow.Author.Tests.{leb-true, leb-false}
 use lib.Dec.{leb}
 use Rattle.laws.proofs.Tests.{cond_cases, or-true, or-false}
 use Rattle.page.specs.PageSize.{IsPageSize}
 use Rattle.page.proofs.PageSizeLaws.{page_least}
-use Rattle.overflow.specs.Totals.{max_size, cell_numbers, body, raw_pages, total_pages}
+use Rattle.overflow.specs.Totals.{max_size, cell_numbers, body, raw_pages, old_total}
 
 -- no page size has a larger limit
 pub max_size_lem : (s : ℕ) → max_size s ≤ 2 ^ 29
@@ -47,19 +46,7 @@ module _ (b r size : ℕ) (large : 8 < b) (past : 15 < r) (short : b * r < size 
   unfolding extra
   extra_tight = rw mul-add (omega (arith, room, div-mul-le_self (size + 4 * (r - 15) - b * r + (b - 3)) (b - 4)))
 
--- a quotient rounded up, as the library takes it
-rounded_up : (a b : ℕ) → 0 < b → a / b + min 1 (a % b) ≡ (a + (b - 1)) / b
-rounded_up a b h =
-    let q = a / b + min 1 (a % b) in
-    let times = div_ceil_times a b h in
-    sym (div-eq_of_lt-le {k = q} b {m = a + (b - 1)} (omega (arith, times)) (rw (add-mul q 1 b, one-mul b) (omega (arith, times))))
-
 module _ {s : ℕ} (size : ℕ) (page : IsPageSize s) where
-  -- the raw pages as the code has them
-  pub raw_is : size / (s - 4) + min 1 (size % (s - 4)) ≡ raw_pages s size
-  unfolding raw_pages
-  raw_is = rounded_up size (body s) (omega (arith, page_least page))
-
   -- the raw pages hold the bytes
   pub raw_covers : size ≤ body s * raw_pages s size
   unfolding raw_pages
@@ -80,8 +67,8 @@ module _ {s : ℕ} (size : ℕ) (page : IsPageSize s) where
       → (cell_numbers < raw_pages s size
       → body s * raw_pages s size < size + 4 * (raw_pages s size - cell_numbers)
       → Q (raw_pages s size + (size + 4 * (raw_pages s size - cell_numbers) - body s * raw_pages s size + (body s - 3)) / (body s - 4)))
-      → Q (total_pages s size)
-  unfolding total_pages
+      → Q (old_total s size)
+  unfolding old_total
   total_cases Q room none =
       let few = leb (raw_pages s size) cell_numbers in
       let fit = leb (raw_pages s size - cell_numbers) ((body s * raw_pages s size - size) / 4) in
@@ -100,29 +87,29 @@ module _ {s : ℕ} (size : ℕ) (page : IsPageSize s) where
           (omega (arith, leb-false (raw_pages s size - cell_numbers) ((body s * raw_pages s size - size) / 4) e.1, raw_covers))
 
   -- a value of one byte or more has a page
-  pub total_positive : 1 ≤ size → 1 ≤ total_pages s size
+  pub total_positive : 1 ≤ size → 1 ≤ old_total s size
   total_positive h =
       total_cases (λ t. 1 ≤ t) (λ _. positive_factor (body s) (raw_pages s size) (omega (arith, raw_covers))) (λ past _. omega arith)
 
   -- the pages have room for the bytes and for the numbers that the cell has no place for
-  pub total_enough : size + 4 * (total_pages s size - cell_numbers) ≤ body s * total_pages s size
+  pub total_enough : size + 4 * (old_total s size - cell_numbers) ≤ body s * old_total s size
   unfolding extra
   total_enough =
       total_cases (λ t. size + 4 * (t - cell_numbers) ≤ body s * t) (λ h. h)
       (λ past short. extra_enough (body s) (raw_pages s size) size (omega (arith, page_least page)) past short)
 
   -- with one page less there would be bytes left
-  pub total_tight : body s * total_pages s size < size + 4 * (total_pages s size - cell_numbers) + body s
+  pub total_tight : body s * old_total s size < size + 4 * (old_total s size - cell_numbers) + body s
   unfolding extra
   total_tight =
       total_cases (λ t. body s * t < size + 4 * (t - cell_numbers) + body s) (λ _. omega (arith, raw_tight))
       (λ past short. extra_tight (body s) (raw_pages s size) size (omega (arith, page_least page)) past short)
 
   -- the total is not much more than the size, and so than the limit
-  pub total_small : total_pages s size ≤ size + 4
-  total_small = few_pages (body s) (total_pages s size) size (omega (arith, page_least page)) total_tight
+  pub total_small : old_total s size ≤ size + 4
+  total_small = few_pages (body s) (old_total s size) size (omega (arith, page_least page)) total_tight
 
-  pub total_few : size ≤ max_size s → total_pages s size ≤ max_size s + 4
+  pub total_few : size ≤ max_size s → old_total s size ≤ max_size s + 4
   total_few h = omega (arith, total_small)
 
 -- what is known of the raw pages, in the numbers of the code
@@ -139,13 +126,3 @@ raw_facts {s} {size} raw e page limit =
     let one : 1 ≤ body s = omega (arith, page_least page) in
     subst⁻¹ (λ (r : ℕ). Raw s size r) e
     (record { large = page_least page; limit = page.limit; covers = raw_covers size page; tight = raw_tight size page; few = omega (arith, mul-le-mul_right (raw_pages s size) one); small = omega (arith, max_size_lem s) })
-
--- the bodies of the pages hold the value and its numbers, and are not much more
-pub record Room (s size total : ℕ) : Type 0 where
-  pub enough : size + 4 * (total - cell_numbers) ≤ body s * total
-  pub small : body s * total < 2 ^ 32
-
-pub total_room : {s size : ℕ} (total : ℕ) → total ≡ total_pages s size → IsPageSize s → size ≤ max_size s → Room s size total
-total_room {s} {size} total e page few =
-    subst⁻¹ (λ (t : ℕ). Room s size t) e
-    (record { enough = total_enough size page; small = omega (arith, total_tight size page, total_small size page, page.limit, max_size_lem s) })

@@ -1,4 +1,5 @@
--- Reading and deleting a value: a walk over its pages, whose numbers are queued from the cell and then from each page.
+-- Reading and deleting a value: a walk over its pages, whose numbers are queued from the cell and then from each page. How many pages it has is
+-- decided on the way.
 use Rattle.std.specs.Prelude.{ℕ, zero, suc, ◌+◌, ◌*◌, Bool, true, false, ◌&&◌, cond, List, [], ◌∷◌, ◌++◌, leb, ltb, eqb, length, get_or, take, Result}
 use Rattle.std.proofs.lemmas.List.Edits.{sets}
 use Rattle.refusal.specs.Outcome.{Outcome, answer, refused, check, with_answer}
@@ -6,7 +7,7 @@ use Rattle.refusal.specs.Effect.{LentMut, Effect, effect, leaves}
 use Rattle.refusal.specs.Refusals.{outcome}
 use Rattle.refusal.specs.declared.Refusal.{Refusal}
 use Rattle.page.specs.Pages.{page_count, page_at}
-use Rattle.overflow.specs.Totals.{body, total_pages}
+use Rattle.overflow.specs.Totals.{body, old_total, new_total}
 use Rattle.overflow.specs.ValuePages.{number_count, byte_count, value_numbers, value_bytes}
 use Rattle.overflow.specs.Cells.{Cell, decode_cell}
 use Rattle.overflow.specs.declared.cell.ValueCounts.{ValueCounts as CountsTold}
@@ -44,13 +45,13 @@ with_page f b = record { numbers = f.numbers ++ value_numbers b; bytes = f.bytes
 abbrev pub in_cell : Cell → Found
 in_cell c = record { numbers = c.numbers; bytes = [] }
 
--- how a walk comes out: it has ended, or stopped with a refusal; and what it has found
+-- how a walk comes out: it has ended, before the page of some index, or stopped with a refusal; and what it has found
 pub data Walked : Type 0 where
-  ended : Found → Walked
+  ended : ℕ → Found → Walked
   stopped : Found → ℕ → List ℕ → Walked
 
 abbrev pub found_by : Walked → Found
-found_by (ended f) = f
+found_by (ended i f) = f
 found_by (stopped f number values) = f
 
 -- go on with the page's bytes, or stop
@@ -58,29 +59,38 @@ abbrev pub onward : Found → (List ℕ → Walked) → Outcome (List ℕ) → W
 onward f next (answer b) = next b
 onward f next (refused number values) = stopped f number values
 
--- walk `left` more pages, from page i on; deleting ends with the first page that has value bytes
+-- walk `left` more pages, from page i on; or only to the first page that has value bytes
 unfoldable pub walk : ℕ → Source → Bool → ℕ → ℕ → Found → Walked
-walk s source deleting zero i f = ended f
-walk s source deleting (suc left) i f =
+walk s source to_bytes zero i f = ended i f
+walk s source to_bytes (suc left) i f =
     onward f
-    (λ (b : List ℕ). cond (deleting && leb 1 (byte_count b)) (ended (with_page f b)) (walk s source deleting left (suc i) (with_page f b)))
+    (λ (b : List ℕ). cond (to_bytes && leb 1 (byte_count b)) (ended (suc i) (with_page f b)) (walk s source to_bytes left (suc i) (with_page f b)))
     (check (ltb i (length f.numbers)) 14 (i ∷ []) (parse_page s source i (get_or f.numbers i 0)))
-
--- the walk over the `total` pages of a cell's value
-abbrev pub walk_cell : ℕ → Source → Bool → ℕ → Cell → Walked
-walk_cell s source deleting total c = walk s source deleting total 0 (in_cell c)
 
 -- the number table after it: the first `total` numbers found, its other places as before
 abbrev pub table_after : ℕ → List ℕ → Walked → List ℕ
 table_after total table w = sets table 0 (take total (found_by w).numbers)
 
+-- ---- how many pages a value has
+
+-- the walk that decides it: to the first page that has value bytes, over as many pages as the old total at most
+abbrev pub first_walk : ℕ → Source → Cell → Walked
+first_walk s source c = walk s source true (old_total s c.size) 0 (in_cell c)
+
+-- the new total, where a page with value bytes has been taken and as many numbers were found until then; else the old one
+unfoldable pub value_total : ℕ → ℕ → Walked → ℕ
+value_total s size (ended i f) = cond (leb 1 (length f.bytes) && eqb (length f.numbers) (new_total s size)) (new_total s size) (old_total s size)
+value_total s size (stopped f number values) = old_total s size
+
+-- ---- admission
+
 -- the cell, where a value can have its size and there is room for the walk
 unfoldable pub admitted : ℕ → (Cell → Bool) → List ℕ → Outcome Cell
 admitted s room b = with_answer (λ c. check (leb 1 c.size) 10 [] (check (room c) 13 [] (answer c))) (decode_cell s b)
 
--- room for the numbers of a cell's value, and for its bytes
+-- room for the numbers of a cell's value, as many as it may have, and for its bytes
 abbrev pub numbers_room : ℕ → ℕ → Cell → Bool
-numbers_room s numbers c = leb (total_pages s c.size) numbers
+numbers_room s numbers c = leb (old_total s c.size) numbers
 
 abbrev pub bytes_room : ℕ → Cell → Bool
 bytes_room bytes c = leb c.size bytes
@@ -89,7 +99,7 @@ bytes_room bytes c = leb c.size bytes
 
 -- what was found is the value, if there are as many numbers and bytes as there should be
 abbrev pub whole_value : ℕ → ℕ → Walked → Outcome Found
-whole_value total size (ended f) = check (eqb (length f.numbers) total) 17 [] (check (eqb (length f.bytes) size) 18 [] (answer f))
+whole_value total size (ended i f) = check (eqb (length f.numbers) total) 17 [] (check (eqb (length f.bytes) size) 18 [] (answer f))
 whole_value total size (stopped f number values) = refused number values
 
 -- how many bytes the value has, and how many numbers were found
@@ -112,11 +122,14 @@ read_lent at numbers value = record { numbers = at numbers; value = at value }
 abbrev pub value_stored : List ℕ → List ℕ → Outcome Found → Effect ValueCounts ReadLent
 value_stored table value = leaves value_counts_of (λ f. record { numbers = table; value = sets value 0 f.bytes }) (record { numbers = table; value = value })
 
-abbrev pub read_cell : ℕ → List ℕ → ReadLent → Outcome Cell → Effect ValueCounts ReadLent
-read_cell s store lent (answer c) =
-    let total = total_pages s c.size in
-    let w = walk_cell s (in_store s store) false total c in
+-- the value of a cell that has so many pages
+abbrev pub read_pages : ℕ → List ℕ → ReadLent → Cell → ℕ → Effect ValueCounts ReadLent
+read_pages s store lent c total =
+    let w = walk s (in_store s store) false total 0 (in_cell c) in
     value_stored (table_after total lent.numbers w) lent.value (whole_value total c.size w)
+
+abbrev pub read_cell : ℕ → List ℕ → ReadLent → Outcome Cell → Effect ValueCounts ReadLent
+read_cell s store lent (answer c) = read_pages s store lent c (value_total s c.size (first_walk s (in_store s store) c))
 read_cell s store lent (refused number values) = effect (refused number values) lent
 
 -- read the value of a cell into a number table and a value buffer
@@ -132,14 +145,15 @@ read_outcome = outcome (λ v. record { size = v.size; numbers = v.numbers })
 
 -- the numbers found, if there are as many as there should be
 abbrev pub all_numbers : ℕ → Walked → Outcome ℕ
-all_numbers total (ended f) = check (eqb (length f.numbers) total) 17 [] (answer (length f.numbers))
+all_numbers total (ended i f) = check (eqb (length f.numbers) total) 17 [] (answer (length f.numbers))
 all_numbers total (stopped f number values) = refused number values
 
+-- after the walk to the first page that has value bytes
+abbrev pub delete_pages : List ℕ → Walked → ℕ → Effect ℕ (List ℕ)
+delete_pages table w total = effect (all_numbers total w) (table_after total table w)
+
 abbrev pub delete_cell : ℕ → List ℕ → List ℕ → Outcome Cell → Effect ℕ (List ℕ)
-delete_cell s store table (answer c) =
-    let total = total_pages s c.size in
-    let w = walk_cell s (in_store s store) true total c in
-    effect (all_numbers total w) (table_after total table w)
+delete_cell s store table (answer c) = let w = first_walk s (in_store s store) c in delete_pages table w (value_total s c.size w)
 delete_cell s store table (refused number values) = effect (refused number values) table
 
 -- collect the numbers of a cell's value in a number table

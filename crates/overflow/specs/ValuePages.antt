@@ -3,7 +3,7 @@ use Rattle.std.specs.Prelude.{ℕ, ◌+◌, ◌*◌, ◌-◌, ◌&&◌, cond, Li
 use Rattle.refusal.specs.Outcome.{Outcome, answer, check}
 use Rattle.refusal.specs.Effect.{Effect}
 use Rattle.page.specs.Bytes.{number_at, bytes_of, numbers_at, bytes_of_all}
-use Rattle.overflow.specs.Totals.{max_size, cell_numbers, total_pages}
+use Rattle.overflow.specs.Totals.{max_size, cell_numbers}
 use Rattle.overflow.specs.Layout.{numbers_before, numbers_on, bytes_before, bytes_on}
 use Rattle.overflow.specs.Stored.{stored_in}
 
@@ -54,15 +54,14 @@ value_page s total value numbers i =
     (take (bytes_on s total size i) (drop (bytes_before s total size i) value))
 
 -- the same with so many bytes lent for it, in the order of the refusals
-unfoldable pub chunk : ℕ → List ℕ → List ℕ → ℕ → ℕ → Outcome (List ℕ)
-chunk s value numbers i bytes_lent =
+unfoldable pub chunk : ℕ → ℕ → List ℕ → List ℕ → ℕ → ℕ → Outcome (List ℕ)
+chunk s total value numbers i bytes_lent =
     let size = length value in
-    let total = total_pages s size in
     check (leb 1 size && leb size (max_size s)) 10 []
     (check (eqb (length numbers) total && ltb i total) 11 []
     (check (leb s bytes_lent) 9 []
     (answer (value_page s total value numbers i))))
 
--- write page i of a value into a page buffer
-unfoldable pub chunk_into : ℕ → List ℕ → List ℕ → ℕ → List ℕ → Effect ℕ (List ℕ)
-chunk_into s value numbers i page = stored_in page (chunk s value numbers i (length page))
+-- write page i of the `total` pages of a value into a page buffer
+unfoldable pub chunk_into : ℕ → ℕ → List ℕ → List ℕ → ℕ → List ℕ → Effect ℕ (List ℕ)
+chunk_into s total value numbers i page = stored_in page (chunk s total value numbers i (length page))

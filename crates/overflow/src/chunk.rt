@@ -3,31 +3,32 @@ ghost use Rattle.std.specs.Prelude.{◌≡◌, ◌+◌, ◌<◌, ◌≤◌, leng
 ghost use Rattle.std.proofs.lemmas.List.Edits.{sets};
 ghost use Rattle.refusal.specs.Effect.{effect};
 ghost use Rattle.overflow.specs.Stored.{written_outcome};
-ghost use Rattle.overflow.specs.Totals.{max_size};
+ghost use Rattle.overflow.specs.Totals.{max_size, total_by};
 ghost use Rattle.overflow.specs.Layout.{numbers_before, bytes_before};
 ghost use Rattle.overflow.specs.ValuePages.{value_page, chunk_into};
 
-use crate::total::{MAX_OVERFLOW_CELL_NODE_POINTERS, max_overflow_value_size, total_needed_pages};
+use crate::total::{MAX_OVERFLOW_CELL_NODE_POINTERS, TotalRule, max_overflow_value_size};
 use crate::value_page::encode_value_page;
 use page::size::PageSize;
 use refusal::Refusal;
 
-// Writes page `index` of a value to the start of the page buffer, and answers how many bytes it has. After a refusal the buffer is as
-// it was. The index counts the value's pages, and is no place in one of the slices.
+// Writes page `index` of a value, which has as many pages as the rule says, to the start of the page buffer, and answers how many bytes it has. After
+// a refusal the buffer is as it was. The index counts the value's pages, and is no place in one of the slices.
 pub fn chunk(
     page_size: PageSize,
+    rule: TotalRule,
     value: &[u8],
     numbers: &[u32],
     index: usize,
     page: &mut [u8],
 ) -> Result<usize, Refusal>
-    ensures { effect (written_outcome result) page.new ≡ chunk_into page_size value.now numbers.now index page.old }
+    ensures { effect (written_outcome result) page.new ≡ chunk_into page_size (total_by rule page_size (length value.now)) value.now numbers.now index page.old }
 {
     let size = value.len();
     if size == 0 || max_overflow_value_size(page_size) < size {
         return Err(Refusal::Size);
     }
-    let total = total_needed_pages(page_size, size);
+    let total = rule.total(page_size, size);
     if numbers.len() != total || total <= index {
         return Err(Refusal::Index);
     }

@@ -4,24 +4,29 @@ ghost use Rattle.refusal.specs.Effect.{effect};
 ghost use Rattle.overflow.specs.Reading.{delete_into, deleted_outcome};
 
 use crate::admit::admit;
-use crate::total::max_overflow_value_size;
-use crate::walk::{Purpose, walk};
+use crate::total::{counted_total, max_overflow_value_size};
+use crate::walk::first_walk;
 use page::store::Store;
 use refusal::Refusal;
 
 // Collects the numbers of the pages of a cell's value, and answers how many there are. The walk ends with the first page that has value
-// bytes: in a chain as the writer makes it no page behind that one has numbers, and a chain that has some there is refused with 17. No
-// room is asked for the bytes, so there is enough for the largest value.
+// bytes: in a chain as the writer makes it no page behind that one has numbers. No room is asked for the bytes, so there is enough for the
+// largest value.
 #[tactic(auto, using(crate::proofs::AdmitLaws::admission, crate::proofs::ReadLaws::delete_refused, crate::proofs::ReadLaws::part_long))]
 pub fn delete(store: &Store, cell: &[u8], numbers: &mut [u32]) -> Result<usize, Refusal>
     ensures { effect (deleted_outcome result) numbers.new ≡ delete_into store.now.page_size cell.now store.now.bytes numbers.old }
 {
-    let largest = max_overflow_value_size(store.page_size());
-    let needs = admit(store, cell, numbers.len(), largest)?;
-    let table = &mut numbers[..needs.numbers];
-    let found = walk(store, cell, Purpose::Deleting, table)?;
-    if found.numbers != needs.numbers {
+    let page_size = store.page_size();
+    let needs = admit(
+        store,
+        cell,
+        numbers.len(),
+        max_overflow_value_size(page_size),
+    )?;
+    let found = first_walk(store, cell, &mut numbers[..needs.numbers])?;
+    let total = counted_total(page_size, needs, found);
+    if found.numbers != total {
         return Err(Refusal::Numbers);
     }
-    Ok(needs.numbers)
+    Ok(total)
 }

@@ -1,4 +1,5 @@
-// Reading a value by its cell: first the walk, which fills the number table, then the copying, which cannot fail.
+// Reading a value by its cell: first the walk, which decides on its way how many pages the value has and fills the number table, then the
+// copying, which cannot fail.
 ghost use Rattle.std.specs.Prelude.{◌≡◌};
 ghost use Rattle.std.proofs.lemmas.List.Edits.{sets};
 ghost use Rattle.refusal.specs.Effect.{before, after, effect};
@@ -8,7 +9,8 @@ ghost use Rattle.overflow.specs.Steps.{value_bytes_of, Copyable};
 use crate::admit::admit;
 use crate::cell::ValueCounts;
 use crate::page_ref::ValuePageRef;
-use crate::walk::{Purpose, walk};
+use crate::total::counted_total;
+use crate::walk::{Until, first_walk, walk};
 use page::copy::copy;
 use page::store::Store;
 use refusal::Refusal;
@@ -25,16 +27,21 @@ pub fn read(
     ensures { effect (read_outcome result) (read_lent after numbers value) ≡ read_value_into store.now.page_size cell.now store.now.bytes (read_lent before numbers value) }
 {
     let needs = admit(store, cell, numbers.len(), value.len())?;
-    let table = &mut numbers[..needs.numbers];
-    let found = walk(store, cell, Purpose::Reading, table)?;
-    if found.numbers != needs.numbers {
+    let found = first_walk(store, cell, &mut numbers[..needs.numbers])?;
+    let total = counted_total(store.page_size(), needs, found);
+    let table = &mut numbers[..total];
+    let found = walk(store, found, Until::End, table)?;
+    if found.numbers != total {
         return Err(Refusal::Numbers);
     }
     if found.size != needs.size {
         return Err(Refusal::Bytes);
     }
     copy_value(store, table, value);
-    Ok(needs)
+    Ok(ValueCounts {
+        size: needs.size,
+        numbers: total,
+    })
 }
 
 // Copies the value bytes of the pages of these numbers, one page after another.

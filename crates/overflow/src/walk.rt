@@ -1,4 +1,5 @@
-// The walk over the pages of a value: the numbers of its pages are queued from the cell and then from each page.
+// The walk over the pages of a value: the numbers of its pages are queued from the cell and then from each page. It is made in two parts, as its first
+// page with value bytes decides how many pages the value has.
 ghost use Rattle.std.specs.Prelude.{◌≡◌, ◌+◌, ◌*◌, ◌-◌, ◌<◌, ◌≤◌, ◌&&◌, leb, length, take};
 ghost use Rattle.std.proofs.lemmas.List.Edits.{sets};
 ghost use Rattle.refusal.specs.Effect.{effect};
@@ -6,58 +7,82 @@ ghost use Rattle.page.specs.Bytes.{numbers_at};
 ghost use Rattle.overflow.specs.Totals.{max_size};
 ghost use Rattle.overflow.specs.Cells.{cell_header};
 ghost use Rattle.overflow.specs.Reading.{in_store};
-ghost use Rattle.overflow.specs.Steps.{page_outcome, visit_into, deletes, walk_into, walk_outcome};
+ghost use Rattle.overflow.specs.Steps.{page_outcome, visit_into, to_bytes, SmallCounts, first_walk_into, walk_into, walk_outcome};
 
-use crate::cell::ValueCounts;
 use crate::page_ref::ValuePageRef;
 use crate::parse::parse_page;
 use page::little_endian::read_numbers;
 use page::store::Store;
 use refusal::Refusal;
 
-// What a walk is for: reading takes all pages, deleting ends with the first page that has value bytes. Contracts name the two, so this is an enum
-// and no closure.
+// How far a walk has come: the pages that it has taken, the value bytes on them, and the numbers found on them and in the cell.
 #[derive(Clone, Copy)]
-pub(crate) enum Purpose {
-    Reading,
-    Deleting,
+pub(crate) struct WalkCounts {
+    pub pages: usize,
+    pub size: usize,
+    pub numbers: usize,
 }
 
-impl Purpose {
+// Where a walk ends: with the first page that has value bytes, or with the last place of its table. Contracts name the two, so this is an enum
+// and no closure.
+#[derive(Clone, Copy)]
+pub(crate) enum Until {
+    FirstBytes,
+    End,
+}
+
+impl Until {
     // Whether a walk ends with a page of so many value bytes.
     fn ends_with(self, bytes: u16) -> bool
-        ensures { result ≡ deletes self && leb 1 bytes }
+        ensures { result ≡ to_bytes self && leb 1 bytes }
     {
         match self {
-            Purpose::Reading => false,
-            Purpose::Deleting => 1 <= bytes,
+            Until::FirstBytes => 1 <= bytes,
+            Until::End => false,
         }
     }
 }
 
-// Walks over the pages of a cell's value, one for each place of the table, and fills the table with the first numbers found. Answers
-// what was found.
-pub(crate) fn walk(
+// Walks from a cell to the first page that has value bytes, over one page for each place of the table at most, and fills the table with the
+// first numbers found.
+pub(crate) fn first_walk(
     store: &Store,
     cell: &[u8],
-    purpose: Purpose,
     table: &mut [u32],
-) -> Result<ValueCounts, Refusal>
+) -> Result<WalkCounts, Refusal>
     requires cell { cell_header ≤ length cell.now }
     requires few { length table.old ≤ max_size store.now.page_size + 4 }
-    ensures { effect (walk_outcome result) table.new ≡ walk_into store.now.page_size store.now.bytes (deletes purpose) (length table.old) cell.now table.old }
+    ensures { effect (walk_outcome result) table.new ≡ first_walk_into store.now.page_size store.now.bytes cell.now table.old }
 {
-    let mut found = ValueCounts {
+    let numbers = (cell.len() - 40) / 4;
+    queue(cell, 40, numbers, table, 0);
+    let start = WalkCounts {
+        pages: 0,
         size: 0,
-        numbers: (cell.len() - 40) / 4,
+        numbers,
     };
-    queue(cell, 40, found.numbers, table, 0);
-    for i in 0..table.len() {
+    walk(store, start, Until::FirstBytes, table)
+}
+
+// Walks on from where a walk has come to, whose numbers stand in the table as far as it has room, and answers what was found in all.
+pub(crate) fn walk(
+    store: &Store,
+    from: WalkCounts,
+    until: Until,
+    table: &mut [u32],
+) -> Result<WalkCounts, Refusal>
+    requires small { SmallCounts from }
+    requires few { length table.old ≤ max_size store.now.page_size + 4 }
+    ensures { effect (walk_outcome result) table.new ≡ walk_into store.now.page_size (in_store store.now.page_size store.now.bytes) (to_bytes until) from table.old }
+{
+    let mut found = from;
+    for i in from.pages..table.len() {
         let page = visit_page(store, i, found.numbers, table)?;
         let bytes = page.byte_count();
+        found.pages = i + 1;
         found.size += usize::from(bytes);
         found.numbers += usize::from(page.number_count());
-        if purpose.ends_with(bytes) {
+        if until.ends_with(bytes) {
             return Ok(found);
         }
     }

@@ -18,6 +18,7 @@ pub enum Kind {
     ReadValue,
     DeleteValue,
     Lookup,
+    WriteOldPage,
 }
 
 impl TryFrom<u64> for Kind {
@@ -40,6 +41,7 @@ impl TryFrom<u64> for Kind {
             9 => Ok(Kind::ReadValue),
             10 => Ok(Kind::DeleteValue),
             11 => Ok(Kind::Lookup),
+            12 => Ok(Kind::WriteOldPage),
             _ => Err(WrongLine),
         }
     }

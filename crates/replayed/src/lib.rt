@@ -45,6 +45,7 @@ fn replay_kind(kind: Kind, fields: &mut Fields<'_>) -> Result<(), Fault> {
         Kind::HandOut => lists::hand_out(fields),
         Kind::Finish => lists::finish(fields),
         Kind::WritePage => values::write_page(fields),
+        Kind::WriteOldPage => values::write_old_page(fields),
         Kind::EncodeCell => values::encode_cell(fields),
         Kind::DecodeCell => values::decode_cell(fields),
         Kind::ReadValue => values::read_value(fields),

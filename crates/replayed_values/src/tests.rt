@@ -14,6 +14,16 @@ fn writes_a_page(rt: HostRuntime) -> Result<(), Fail> {
     Ok(fields.expect_end()?)
 }
 
+// The same page by the old total.
+#[test]
+fn writes_an_old_page(rt: HostRuntime) -> Result<(), Fail> {
+    let text = "16 0 1 236 1 0 16 0 0 0 1 0 236 0 0 0 0 0 0 0 0 0 0 0";
+    let line = numbers(rt.alloc(), text)?;
+    let mut fields = Fields::new(rt.alloc(), &line);
+    values::write_old_page(&mut fields)?;
+    Ok(fields.expect_end()?)
+}
+
 // A cell with no number.
 #[test]
 fn writes_a_cell(rt: HostRuntime) -> Result<(), Fail> {

@@ -6,6 +6,7 @@ use crate::pages::{NONE_PENDING, agrees, page_size};
 use calls::values;
 use lookup::lookup::lookup;
 use overflow::page_ref::ValuePageRef;
+use overflow::total::TotalRule;
 use page::number::PageNumber;
 use page::size::PageSize;
 use page::store::Store;
@@ -16,12 +17,25 @@ use record_line::fields::{BLANK_OUT, FILLER, Fields};
 pub fn write_page(fields: &mut Fields<'_>) -> Result<(), Fault>
     ensures { OnOk result (TakesAtLeast 6 fields.old fields.new) }
 {
+    write_page_by(fields, TotalRule::New)
+}
+
+// The same of a value that is written by the old total.
+pub fn write_old_page(fields: &mut Fields<'_>) -> Result<(), Fault>
+    ensures { OnOk result (TakesAtLeast 6 fields.old fields.new) }
+{
+    write_page_by(fields, TotalRule::Old)
+}
+
+fn write_page_by(fields: &mut Fields<'_>, rule: TotalRule) -> Result<(), Fault>
+    ensures { OnOk result (TakesAtLeast 6 fields.old fields.new) }
+{
     let page_size = page_size(fields)?;
     let index = fields.number()?;
     let value = fields.array()?;
     let numbers = fields.array()?;
     let mut page = fields.blank()?;
-    let status = values::write_value_page(page_size, &value, &numbers, index, &mut page);
+    let status = values::write_value_page(page_size, rule, &value, &numbers, index, &mut page);
     Ok(expect_written(fields, status, &page)?)
 }
 

@@ -22,7 +22,7 @@ use Rattle.free_list.specs.Shape.{FreeList}
 use Rattle.free_list.specs.Reading.{ListSize, ListTables, list_in}
 use Rattle.overflow.specs.Cells.{decode_cell_into}
 use Rattle.overflow.specs.Kept.{cell_for}
-use Rattle.overflow.proofs.TotalsLaws.{total_positive}
+use Rattle.overflow.proofs.NewTotalLaws.{either_positive}
 use Rattle.overflow.proofs.CellsLaws.{count_encoded}
 use Rattle.overflow.proofs.ReadBackLaws.{decode-back, reads_back}
 use Rattle.allocator.specs.OpenSave.{Save, bumped, HandedOut, hand_out}
@@ -215,9 +215,9 @@ code_rollback size a good n made follows extra writes allowed =
 -- what the writer wrote is read
 pub written-value : {s : ℕ} → IsPageSize s → WrittenReads s
 unfolding decode_cell_into
-written-value {s} size store value numbers kept hash long =
-    let decoded = decode-back size kept hash long (total_positive (length value) size kept.size) in
+written-value {s} size store total value numbers either kept hash long =
+    let decoded = decode-back size kept hash long (either_positive (length value) size kept.size either) in
     record {
       cell = λ h. rw (decoded, count_encoded s (cell_for value hash numbers) kept.few long);
-      value = λ lent. reads_back size store value numbers kept hash long lent.numbers lent.value;
+      value = λ lent. reads_back size store total value numbers either kept hash long lent.numbers lent.value;
     }

@@ -21,13 +21,9 @@ use Rattle.free_list.specs.StoredList.{StoredList}
 use Rattle.free_list.specs.Reading.{read_list}
 use Rattle.free_list.proofs.StoredLaws.{read_stored}
 use Rattle.free_list.proofs.ReadListLaws.{stored-read, head_read}
-use Rattle.overflow.specs.Totals.{total_pages}
-use Rattle.overflow.specs.Cells.{cell_of}
-use Rattle.overflow.specs.Reading.{in_cell}
-use Rattle.overflow.proofs.LocalLaws.{walk_local}
 use Rattle.finisher.proofs.FinishLaws.{succeeds}
 use Rattle.rollback.specs.Rollback.{GetsList, Value, GetsValue, State, Good, ToWrite, value_page, list_page, Cut, run_of, Rollback}
-use Rattle.rollback.proofs.ReadersLaws.{list_read, gets_list, value-walked, gets-value}
+use Rattle.rollback.proofs.ReadersLaws.{list_read, gets_list, gets-value}
 use Rattle.rollback.proofs.CallsLaws.{Free, handed_free, Ran, run_ran}
 use Rattle.rollback.proofs.WritesLaws.{SamePage, Apart, MayWrite, finish_writes}
 
@@ -150,10 +146,7 @@ module _ {s : ℕ} (size : IsPageSize s) {a : State} (first : Good s a) where
 
     value_survives : (x : Value) → Memᴰ x a.values → GetsValue s more x
     value_survives x m =
-        let gets = first.each x m in
-        let walked = value-walked s x store gets in
-        let cell = cell_of x.cell in
-        gets-value s x store gets more (walk_local s store more more-pages (total_pages s cell.size) 0 (in_cell cell) _ walked (value-page x m) ∙ sym walked)
+        gets-value s x store (first.each x m) more more-pages (value-page x m)
 
 -- demand 3, at every page size
 pub rollback : {s : ℕ} → IsPageSize s → Rollback s

@@ -7,7 +7,7 @@ use Rattle.refusal.specs.Effect.{Effect}
 use Rattle.page.specs.Pages.{Write, write_pages}
 use Rattle.free_list.specs.Shape.{FreeList, head_of}
 use Rattle.free_list.specs.Reading.{ListTables, has_room, read_list_into}
-use Rattle.overflow.specs.Totals.{total_pages}
+use Rattle.overflow.specs.Totals.{IsTotal}
 use Rattle.overflow.specs.Cells.{hash_size, cell_bytes}
 use Rattle.overflow.specs.Kept.{Kept, cell_for}
 use Rattle.allocator.specs.OpenSave.{Save, HandedOut, hand_out}
@@ -102,10 +102,10 @@ abbrev pub ReadOpens : ℕ → Type 0
 ReadOpens s = (store : List ℕ) (head : ℕ) (l : FreeList) → GetsList s store head l → (t : ListTables) → has_room t l ≡ true
     → (behind : ListTables) × ((read_list_into s store false head t).lent ≡ in_front l behind)
 
--- a value whose pages, as its writer makes them, stand in the store at their numbers, is one that its reader gets by its cell: size, hash,
--- numbers and bytes
+-- a value whose pages, as a writer makes them by the one total or the other, stand in the store at their numbers, is one that its reader gets by
+-- its cell: size, hash, numbers and bytes
 abbrev pub WrittenReads : ℕ → Type 0
-WrittenReads s = (store value numbers : List ℕ) → Kept s store (total_pages s (length value)) value numbers → (hash : List ℕ) → length hash ≡ hash_size
+WrittenReads s = (store : List ℕ) (total : ℕ) (value numbers : List ℕ) → IsTotal s (length value) total → Kept s store total value numbers → (hash : List ℕ) → length hash ≡ hash_size
     → GetsValue s store (record { cell = cell_bytes (cell_for value hash numbers); hash = hash; numbers = numbers; bytes = value })
 
 -- ---- demand 3 in the words of such a caller

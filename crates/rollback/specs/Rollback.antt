@@ -8,6 +8,7 @@ use Rattle.refusal.specs.Effect.{effect}
 use Rattle.page.specs.Pages.{Write, write_pages}
 use Rattle.free_list.specs.Shape.{FreeList}
 use Rattle.free_list.specs.Reading.{size_of, ListTables, list_in, has_room, read_list_into}
+use Rattle.overflow.specs.Totals.{old_total}
 use Rattle.overflow.specs.Cells.{cell_count, decode_cell_into}
 use Rattle.overflow.specs.Reading.{ReadLent, read_value_into}
 use Rattle.finisher.specs.Finish.{Finished}
@@ -28,10 +29,11 @@ pub record Value : Type 0 where
 abbrev pub value_in : ReadLent → Value → ReadLent
 value_in lent x = record { numbers = sets lent.numbers 0 x.numbers; value = sets lent.value 0 x.bytes }
 
--- the reader with this cell gets the value's size and hash, and into any table and buffer that are long enough its numbers and bytes
+-- the reader with this cell gets the value's size and hash, and into any table and buffer that are long enough its numbers and bytes. As a reader
+-- asks it, the table has place for the old total of the value's size, be the value written by this total or by the new one
 pub record GetsValue (s : ℕ) (store : List ℕ) (x : Value) : Type 0 where
   pub cell : (hash : List ℕ) → decode_cell_into s x.cell hash ≡ effect (answer (record { size = length x.bytes; numbers = cell_count x.cell })) (sets hash 0 x.hash)
-  pub value : (lent : ReadLent) → length x.numbers ≤ length lent.numbers → length x.bytes ≤ length lent.value
+  pub value : (lent : ReadLent) → old_total s (length x.bytes) ≤ length lent.numbers → length x.bytes ≤ length lent.value
       → read_value_into s x.cell store lent ≡ effect (answer (record { size = length x.bytes; numbers = length x.numbers })) (value_in lent x)
 
 -- a save: its store, and what its caller keeps of it

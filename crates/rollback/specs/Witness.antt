@@ -1,13 +1,14 @@
 -- Small saves, at pages of 16 bytes: a first one, a second that was finished and written whole, and a third that was cut. They meet what
 -- is asked, and after the cut the second one is read, as computed. And two wrong finishes, whose pages would break the first save.
-use Rattle.std.specs.Prelude.{ℕ, ◌≡◌, false, List, [], ◌∷◌, ◌++◌, replicate}
+use Rattle.std.specs.Prelude.{ℕ, zero, suc, ◌≡◌, false, List, [], ◌∷◌, ◌++◌, replicate}
 use Rattle.refusal.specs.Outcome.{answer, refused}
 use Rattle.refusal.specs.Effect.{effect}
 use Rattle.page.specs.Pages.{Write, write_pages}
 use Rattle.free_list.specs.Shape.{FreeList}
 use Rattle.free_list.specs.ListPages.{encode_list_page}
 use Rattle.free_list.specs.Reading.{ListTables, read_list_into}
-use Rattle.overflow.specs.ValuePages.{encode_value_page}
+use Rattle.overflow.specs.Totals.{new_total, old_total}
+use Rattle.overflow.specs.ValuePages.{encode_value_page, value_page}
 use Rattle.overflow.specs.Cells.{cell_bytes}
 use Rattle.overflow.specs.Kept.{cell_for}
 use Rattle.overflow.specs.Reading.{ReadLent, read_value_into}
@@ -100,6 +101,33 @@ cut_writes = value_page_at 4 (5 ∷ []) ∷ value_page_at 1 (6 ∷ 6 ∷ []) ∷
 unfoldable pub cut_store : List ℕ
 cut_store = write_pages small (write_pages small (store ++ []) writes ++ replicate 20 0) cut_writes
 
+-- ---- a save whose value has 203 bytes, the least size of which the totals differ at these pages: page 1 is its list page, with entry 20, and
+-- pages 2 to 19 hold the value, which is written by the new total. By the old one it would have a page more
+
+abbrev pub long_bytes : List ℕ
+long_bytes = replicate 203 7
+
+abbrev pub long_numbers : List ℕ
+long_numbers = 2 ∷ 3 ∷ 4 ∷ 5 ∷ 6 ∷ 7 ∷ 8 ∷ 9 ∷ 10 ∷ 11 ∷ 12 ∷ 13 ∷ 14 ∷ 15 ∷ 16 ∷ 17 ∷ 18 ∷ 19 ∷ []
+
+abbrev pub long_value : Value
+long_value = record { cell = cell_bytes (cell_for long_bytes hash long_numbers); hash = hash; numbers = long_numbers; bytes = long_bytes }
+
+-- its first n pages, one after another
+unfoldable pub long_pages : ℕ → List ℕ
+long_pages zero = []
+long_pages (suc n) = long_pages n ++ value_page small 18 long_bytes long_numbers n
+
+unfoldable pub long_store : List ℕ
+long_store = replicate 16 0 ++ (encode_list_page small 0 (20 ∷ []) ++ (long_pages 18 ++ replicate 16 0))
+
+unfoldable pub long : State
+long = record { store = long_store; head = 1; list = list (1 ∷ []) (20 ∷ []); values = long_value ∷ []; bump = 21 }
+
+-- tables of so many places for its numbers, and room for its bytes
+abbrev pub long_room : ℕ → ReadLent
+long_room places = record { numbers = replicate places 0; value = replicate 203 0 }
+
 -- ---- what is shown of them
 
 abbrev pub no_value : ReadLent
@@ -124,3 +152,11 @@ pub record Witnessed : Type 0 where
   -- a finish that wrote its list page over the head: the first list is lost
   pub head_in_place : read_list_into small (write_pages small store (list_page_at 1 (2 ∷ 4 ∷ []) ∷ [])) false 1 (tables (0 ∷ []) (0 ∷ 0 ∷ []))
       ≡ effect (answer (record { P = 1; L = 2 })) (tables (1 ∷ []) (2 ∷ 4 ∷ []))
+  -- a value that has the new total, where this is one less than the old one, is one that a save may have; its reader asks for a place more than its
+  -- numbers take
+  pub new_less : new_total small 203 ≡ 18
+  pub old_more : old_total small 203 ≡ 19
+  pub long_good : Good small long
+  pub long_short : (read_value_into small long_value.cell long_store (long_room 18)).outcome ≡ refused 13 []
+  pub long_read : read_value_into small long_value.cell long_store (long_room 19)
+      ≡ effect (answer (record { size = 203; numbers = 18 })) (record { numbers = long_numbers ++ (0 ∷ []); value = long_bytes })

@@ -1,17 +1,20 @@
 -- Document 01's marked samples hold, and document 02's.
 -- Each row is an equation of two terms that compute to the same; a whole page that stands in a buffer by the law of such places, since
 -- place by place it computes too long.
-use Prim.Native.Nat.{ℕ, ◌+◌}
+use Prim.Native.Nat.{ℕ, ◌+◌, ◌-◌, ◌^◌, ◌≤◌}
+use mathlib.Core.Bool.{◌&&◌, cond}
+use lib.Dec.{leb}
 use mathlib.Core.Path.{◌≡◌, refl, ◌∙◌}
 use mathlib.Core.List.{List, [], ◌∷◌, ◌++◌, append-nil}
 use native.Mathlib.Omega.{arith}
 use lib.ListN.{length, replicate, length-replicate}
 use lib.Seq.{sets, sets-eq}
 use Rattle.laws.specs.Counting.{numbers_from}
-use Rattle.refusal.specs.Outcome.{answer}
+use Rattle.refusal.specs.Outcome.{answer, check}
 use Rattle.page.specs.Growth.{grow, grown, rounded_up}
 use Rattle.page.specs.Bytes.{number_at, numbers_at, bytes_of, bytes_of_all}
 use Rattle.page.specs.PageSize.{standard_page_size, capacity}
+use Rattle.page.proofs.PageSizeLaws.{page-size}
 use Rattle.page.specs.Pages.{page_count, page_at, Write}
 use Rattle.free_list.specs.ListPages.{prev_of, count_of, entries_of, encode_list_page}
 use Rattle.free_list.specs.Reading.{ListTables, list_in, count_fits, all_entries_fit, read_from, list_from, read_list_into}
@@ -19,12 +22,13 @@ use Rattle.free_list.specs.Shape.{FreeList, is_shape, is_fragmented, entries_bel
 use Rattle.preallocate.specs.Plan.{pages_for, room as room_of, pages_after, pushed_after, first_plan, next_plan, enough_room, plan_of}
 use Rattle.allocator.specs.OpenSave.{state_fits, next_number, next_recorded, hand_out, count_up}
 use Rattle.finisher.specs.Finish.{new_list, encoded_page, encoded_pages, carried_out, finish_list, first_bad, finish_answer, tables_of, finished, room_in, finish as finishing, bytes_of_pages, finish_into}
-use Rattle.overflow.specs.Totals.{max_size, raw_pages, total_pages, spare_room, total_of, page_total}
+use Rattle.overflow.specs.Totals.{max_size, holds, first_from, new_total, raw_pages, old_total, spare_room, total_of, page_total}
+use Rattle.overflow.proofs.NewTotalLaws.{one_less}
 use Rattle.overflow.specs.Layout.{numbers_before, numbers_on, bytes_before, bytes_on}
 use Rattle.overflow.specs.ValuePages.{number_count, byte_count, value_numbers, value_bytes, encode_value_page, value_page, chunk, chunk_into}
 use Rattle.overflow.specs.Cells.{cell_bytes, cell_size, cell_count, cell_of, decode_cell}
-use Rattle.overflow.specs.Reading.{in_store, parse_page, walk, admitted, read_value_into, delete_into}
-use Rattle.samples.specs.Samples.{old, list, save, room, finish, writes, value, write, writes_bytes, Samples}
+use Rattle.overflow.specs.Reading.{in_store, parse_page, walk, value_total, admitted, read_value_into, delete_into}
+use Rattle.samples.specs.Samples.{old, pages, list, save, room, finish, writes, value, write, writes_bytes, Samples}
 
 -- a whole page in a buffer with a place more
 page-stands : (bytes : List ℕ) → length bytes ≡ standard_page_size → sets (replicate (standard_page_size + 1) old) 0 bytes ≡ bytes ++ (old ∷ [])
@@ -47,13 +51,21 @@ one_page l bump n freed number entries bytes up t done encoded long told stands 
     rw (done, told, append-nil (encode_list_page standard_page_size 0 entries), encoded, page-stands bytes long, stands)
 
 -- a page of the value
-page_of_lem : (i : ℕ) (bytes : List ℕ) → chunk standard_page_size value (numbers_from 101 16) i (length (replicate (standard_page_size + 1) old)) ≡ answer bytes
+page_of_lem : (i : ℕ) (bytes : List ℕ) → chunk standard_page_size 16 value (numbers_from 101 16) i (length (replicate (standard_page_size + 1) old)) ≡ answer bytes
     → length bytes ≡ standard_page_size → write i ≡ writes_bytes bytes
 unfolding chunk_into
 page_of_lem i bytes done long = rw (done, page-stands bytes long, long)
 
+-- what is told of a large size: its new total is not looked for from 0 on, but is the old one or one less
+large : (size : ℕ) {total cell spare room : ℕ} → 1 ≤ size
+    → cond (holds standard_page_size size (old_total standard_page_size size - 1)) (old_total standard_page_size size - 1) (old_total standard_page_size size) ≡ total
+    → check (leb 1 size && leb size (max_size standard_page_size)) 10 [] (answer (total_of standard_page_size size total)) ≡ pages total cell spare room
+    → page_total standard_page_size size ≡ pages total cell spare room
+unfolding page_total
+large size some e told = rw (one_less page-size size some ∙ e) told
+
 pub samples : Samples
-unfolding numbers_from number_at numbers_at bytes_of bytes_of_all capacity page_count page_at prev_of count_of entries_of encode_list_page count_fits all_entries_fit read_from list_from read_list_into is_shape is_fragmented entries_below entries_on head_of pages_for room_of pages_after pushed_after first_plan next_plan enough_room plan_of state_fits next_number next_recorded hand_out count_up new_list encoded_page encoded_pages carried_out finish_list first_bad finish_answer finished finishing bytes_of_pages finish_into grow grown rounded_up max_size raw_pages total_pages spare_room total_of page_total numbers_before numbers_on bytes_before bytes_on encode_value_page value_page chunk chunk_into number_count byte_count value_numbers value_bytes cell_bytes cell_size cell_count cell_of decode_cell in_store parse_page walk admitted read_value_into delete_into
+unfolding numbers_from number_at numbers_at bytes_of bytes_of_all capacity page_count page_at prev_of count_of entries_of encode_list_page count_fits all_entries_fit read_from list_from read_list_into is_shape is_fragmented entries_below entries_on head_of pages_for room_of pages_after pushed_after first_plan next_plan enough_room plan_of state_fits next_number next_recorded hand_out count_up new_list encoded_page encoded_pages carried_out finish_list first_bad finish_answer finished finishing bytes_of_pages finish_into grow grown rounded_up max_size holds first_from new_total raw_pages old_total spare_room total_of page_total numbers_before numbers_on bytes_before bytes_on encode_value_page value_page chunk chunk_into number_count byte_count value_numbers value_bytes cell_bytes cell_size cell_count cell_of decode_cell in_store parse_page walk value_total admitted read_value_into delete_into
 samples =
     record {
       grow_0 = refl;
@@ -72,17 +84,26 @@ samples =
       all_popped_second = refl;
       all_popped_third = refl;
       finish_all_popped = one_page (list (10 ∷ []) (20 ∷ [])) 30 3 [] 32 (10 ∷ []) _ 33 _ refl refl refl refl refl;
+      old_total_61380 = refl;
+      old_total_61381 = refl;
+      old_total_65468 = refl;
+      old_total_65469 = refl;
+      old_total_4243402 = refl;
+      old_total_4243403 = refl;
+      old_total_4243404 = refl;
+      old_total_largest = refl;
+      total_4243403_less_would_do = refl;
+      total_4243404_less_would_do = refl;
       total_1 = refl;
       total_61380 = refl;
       total_61381 = refl;
       total_65468 = refl;
       total_65469 = refl;
-      total_4243402 = refl;
-      total_4243403 = refl;
-      total_4243404 = refl;
-      total_4243403_less_would_do = refl;
-      total_4243404_less_would_do = refl;
-      total_largest = refl;
+      total_4243402 = large 4243402 (omega arith) refl refl;
+      total_4243403 = large 4243403 (omega arith) refl refl;
+      total_4243404 = large 4243404 (omega arith) refl refl;
+      total_4243405 = large 4243405 (omega arith) refl refl;
+      total_largest = large (2 ^ 29) (omega arith) refl refl;
       page_0_of_61381 = page_of_lem 0 _ refl refl;
       page_15_of_61381 = page_of_lem 15 _ refl refl;
       empty_page_read = refl;

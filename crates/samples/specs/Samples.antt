@@ -11,7 +11,7 @@ use Rattle.free_list.specs.Shape.{FreeList}
 use Rattle.free_list.specs.Reading.{ListTables, read_list_into}
 use Rattle.allocator.specs.OpenSave.{Save, Counters, count_up}
 use Rattle.finisher.specs.Finish.{FinishAnswer, FinishRoom, FinishLent, finish_into}
-use Rattle.overflow.specs.Totals.{Total, cell_numbers, body, page_total}
+use Rattle.overflow.specs.Totals.{Total, cell_numbers, old_total, body, page_total}
 use Rattle.overflow.specs.ValuePages.{chunk_into}
 use Rattle.overflow.specs.Cells.{cell_with, hash_size, cell_bytes}
 use Rattle.overflow.specs.Reading.{ReadLent, read_value_into, delete_into}
@@ -84,9 +84,9 @@ writes_none bump =
 
 -- ---- values
 
--- a total of which so many numbers go to the cell, and the spare room
-abbrev pub pages : ℕ → ℕ → ℕ → Outcome Total
-pages total cell spare = answer (record { total = total; cell = cell; spare = spare })
+-- a total of which so many numbers go to the cell, the spare room, and the places that a reader's number table needs: the old total
+abbrev pub pages : ℕ → ℕ → ℕ → ℕ → Outcome Total
+pages total cell spare room = answer (record { total = total; cell = cell; spare = spare; room = room })
 
 -- a value of 61,381 bytes: as document 01 has it, 4,088 on page 0, 4,092 on each of pages 1 to 14, 5 on page 15
 abbrev pub value : List ℕ
@@ -94,7 +94,7 @@ value = replicate 4088 1 ++ (replicate (4092 * 14) 2 ++ replicate 5 3)
 
 -- page i of it is written, where its pages have the numbers 101 to 116; and these bytes are
 abbrev pub write : ℕ → Effect ℕ (List ℕ)
-write i = chunk_into standard_page_size value (numbers_from 101 16) i (replicate (standard_page_size + 1) old)
+write i = chunk_into standard_page_size 16 value (numbers_from 101 16) i (replicate (standard_page_size + 1) old)
 
 abbrev pub writes_bytes : List ℕ → Effect ℕ (List ℕ)
 writes_bytes bytes = effect (answer standard_page_size) (bytes ++ (old ∷ []))
@@ -128,17 +128,26 @@ pub record Samples : Type 0 where
   pub all_popped_second : next (list (10 ∷ []) (20 ∷ [])) 30 1 ≡ handed 30 2
   pub all_popped_third : next (list (10 ∷ []) (20 ∷ [])) 30 2 ≡ handed 31 3
   pub finish_all_popped : finish (list (10 ∷ []) (20 ∷ [])) 30 3 [] ≡ writes 32 1 (page (0 ∷ 0 ∷ 0 ∷ 0 ∷ 1 ∷ 0 ∷ 10 ∷ 0 ∷ 0 ∷ 0 ∷ [])) 33 (tables (32 ∷ old ∷ []) (10 ∷ old ∷ old ∷ []))
-  pub total_1 : page_total standard_page_size 1 ≡ pages 1 1 4091
-  pub total_61380 : page_total standard_page_size 61380 ≡ pages 15 15 0
-  pub total_61381 : page_total standard_page_size 61381 ≡ pages 16 15 4087
-  pub total_65468 : page_total standard_page_size 65468 ≡ pages 16 15 0
-  pub total_65469 : page_total standard_page_size 65469 ≡ pages 17 15 4087
-  pub total_4243402 : page_total standard_page_size 4243402 ≡ pages 1038 15 2
-  pub total_4243403 : page_total standard_page_size 4243403 ≡ pages 1039 15 4089
-  pub total_4243404 : page_total standard_page_size 4243404 ≡ pages 1039 15 4088
+  pub old_total_61380 : old_total standard_page_size 61380 ≡ 15
+  pub old_total_61381 : old_total standard_page_size 61381 ≡ 16
+  pub old_total_65468 : old_total standard_page_size 65468 ≡ 16
+  pub old_total_65469 : old_total standard_page_size 65469 ≡ 17
+  pub old_total_4243402 : old_total standard_page_size 4243402 ≡ 1038
+  pub old_total_4243403 : old_total standard_page_size 4243403 ≡ 1039
+  pub old_total_4243404 : old_total standard_page_size 4243404 ≡ 1039
+  pub old_total_largest : old_total standard_page_size (2 ^ 29) ≡ 131329
   pub total_4243403_less_would_do : body standard_page_size * 1038 ≡ 4243403 + 4 * (1038 - cell_numbers) + 1
   pub total_4243404_less_would_do : body standard_page_size * 1038 ≡ 4243404 + 4 * (1038 - cell_numbers)
-  pub total_largest : page_total standard_page_size (2 ^ 29) ≡ pages 131329 15 2100
+  pub total_1 : page_total standard_page_size 1 ≡ pages 1 1 4091 1
+  pub total_61380 : page_total standard_page_size 61380 ≡ pages 15 15 0 15
+  pub total_61381 : page_total standard_page_size 61381 ≡ pages 16 15 4087 16
+  pub total_65468 : page_total standard_page_size 65468 ≡ pages 16 15 0 16
+  pub total_65469 : page_total standard_page_size 65469 ≡ pages 17 15 4087 17
+  pub total_4243402 : page_total standard_page_size 4243402 ≡ pages 1038 15 2 1038
+  pub total_4243403 : page_total standard_page_size 4243403 ≡ pages 1038 15 1 1039
+  pub total_4243404 : page_total standard_page_size 4243404 ≡ pages 1038 15 0 1039
+  pub total_4243405 : page_total standard_page_size 4243405 ≡ pages 1039 15 4087 1039
+  pub total_largest : page_total standard_page_size (2 ^ 29) ≡ pages 131329 15 2100 131329
   pub page_0_of_61381 : write 0 ≡ writes_bytes (1 ∷ 0 ∷ 248 ∷ 15 ∷ 116 ∷ 0 ∷ 0 ∷ 0 ∷ replicate 4088 1)
   pub page_15_of_61381 : write 15 ≡ writes_bytes (page (0 ∷ 0 ∷ 5 ∷ 0 ∷ 3 ∷ 3 ∷ 3 ∷ 3 ∷ 3 ∷ []))
   pub empty_page_read : read_value_into standard_page_size empty_cell store (lent (old ∷ old ∷ [])) ≡ effect (refused 25 (0 ∷ [])) (lent (12 ∷ old ∷ []))

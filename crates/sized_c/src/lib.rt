@@ -9,8 +9,9 @@ ghost use Rattle.calls.specs.Lists.{ReadsList};
 ghost use Rattle.calls.specs.Lookups.{LooksUp};
 ghost use Rattle.calls.specs.Saves.{HandsOut, Finishes};
 ghost use Rattle.calls.specs.Totals.{TellsTotal};
-ghost use Rattle.calls.specs.Values.{WritesPage, EncodesCell, DecodesCell, ReadsValue, DeletesValue};
+ghost use Rattle.calls.specs.Values.{WritesPage, WritesOldPage, EncodesCell, DecodesCell, ReadsValue, DeletesValue};
 
+use overflow::total::TotalRule;
 use page::size::PageSize;
 
 #[unsafe(no_mangle)]
@@ -134,6 +135,28 @@ pub extern "C" fn sized_write_value_page(
 {
     calls::values::write_value_page(
         PageSize::of_words(words as usize),
+        TotalRule::New,
+        value,
+        numbers,
+        index,
+        page,
+    )
+}
+
+// The writer by the old total, of which the Rust's pages are.
+#[unsafe(no_mangle)]
+pub extern "C" fn sized_write_old_value_page(
+    words: u64,
+    value: &[u8],
+    numbers: &[u32],
+    index: u64,
+    page: &mut [u8],
+) -> u32
+    ensures { WritesOldPage (page_size_of words) value numbers index page result }
+{
+    calls::values::write_value_page(
+        PageSize::of_words(words as usize),
+        TotalRule::Old,
         value,
         numbers,
         index,

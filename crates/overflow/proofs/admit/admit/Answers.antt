@@ -9,11 +9,11 @@ returns-then-numbers-total-clause-needs c =
     let d = decoding _ _ c.in_ok-size.ensures in
     rw (← c.page_size-page_size.ensures)
     (elim c.then-numbers-total.branch [
-      | then-numbers-total-via-then-numbers-total w ↦ admit_numbers _ _ _ _ d c.if-size-eq0.false c.total_needed_pages-total.ensures w.if-numbers-total.true
-      | then-numbers-total-via-else-numbers-total+then-bytes-size w ↦ admit_bytes _ _ _ _ d c.if-size-eq0.false c.total_needed_pages-total.ensures w.if-numbers-total.false w.if-bytes-size.true
+      | then-numbers-total-via-then-numbers-total w ↦ admit_numbers _ _ _ _ d c.if-size-eq0.false c.total_needed_pages-total.ensures.total w.if-numbers-total.true
+      | then-numbers-total-via-else-numbers-total+then-bytes-size w ↦ admit_bytes _ _ _ _ d c.if-size-eq0.false c.total_needed_pages-total.ensures.total w.if-numbers-total.false w.if-bytes-size.true
     ])
 
 pub returns-clause-needs : goal.returns-clause-needs
 returns-clause-needs c =
     rw (← c.page_size-page_size.ensures)
-    (admit_all _ _ _ _ (decoding _ _ c.in_ok-size.ensures) c.if-size-eq0.false c.total_needed_pages-total.ensures c.if-numbers-total.false c.if-bytes-size.false)
+    (admit_all _ _ _ _ (decoding _ _ c.in_ok-size.ensures) c.if-size-eq0.false c.total_needed_pages-total.ensures.total c.if-numbers-total.false c.if-bytes-size.false)
