@@ -8,7 +8,7 @@ LIB := target/staticlib/libmopsienna.a
 ORACLE := cargo run --quiet --release --manifest-path oracle/Cargo.toml
 CC11 := cc -std=c11 -Wall -Wextra -Werror -O1 -Iinclude
 
-.PHONY: run test lib sized interface limits example memcheck compare record cuts bench count times
+.PHONY: run test lib sized interface totals limits example memcheck compare record cuts bench count times
 
 # Builds the sizing program and runs it: on standard input, or on a sample where that is a terminal.
 run:
@@ -16,7 +16,7 @@ run:
 	@if [ -t 0 ]; then printf '1\n61381\n0\n7a\n' | target/bin/sizing; else target/bin/sizing; fi
 
 # Everything that a change must pass. The gate, rt ci, comes last.
-test: interface limits example sized
+test: interface totals limits example sized
 	@if [ -d "$(NOMT_SRC)" ]; then $(ORACLE) -p compare -- --short && $(ORACLE) -p compare -- --self-test; \
 	else echo "comparison with the Rust: skipped, there is no $(NOMT_SRC)"; fi
 	@if command -v cargo >/dev/null; then $(ORACLE) -p cuts -- --short && $(ORACLE) -p cuts -- --self-test; \
@@ -36,6 +36,11 @@ interface: lib
 	@$(CC11) -o target/interface tests/interface.c $(LIB)
 	@target/interface
 
+# Values of the least size of which the two totals differ, chains of either total, and damaged ones.
+totals: lib
+	@$(CC11) -o target/totals tests/totals.c $(LIB)
+	@target/totals
+
 # The limits: the largest bump, value and stores, under a small stack.
 limits: lib
 	@$(CC11) -pthread -o target/limits tests/limits.c $(LIB)
@@ -47,8 +52,9 @@ example: lib
 	@target/save
 
 # The C programs under valgrind, which must have nothing to report. It maps no store of 1 TiB; here it has 16 GiB.
-memcheck: interface limits example
+memcheck: interface totals limits example
 	@valgrind --quiet --error-exitcode=1 target/interface
+	@valgrind --quiet --error-exitcode=1 target/totals
 	@valgrind --quiet --error-exitcode=1 target/limits 22
 	@valgrind --quiet --error-exitcode=1 target/save
 

@@ -156,12 +156,15 @@ uint32_t mopsienna_finish(uint32_t bump, uint32_t length, uint64_t P, uint64_t L
                           uint64_t out[8]);
 
 /*
- * How many overflow pages a value of `size` bytes takes.
+ * How many overflow pages a value of `size` bytes takes when it is written: the least number of pages
+ * that have room for its bytes and for 4 more for each page after the 15th, 4,092 on a page.
  *
  *   out[0]  the total
  *   out[1]  how many of their numbers stand in the value's cell: the total, at most 15
  *   out[2]  the spare room, which the value and the numbers on its pages leave: 4,092 times the
  *           total, less the size, less 4 for each page after the 15th
+ *   out[3]  how many places a number table needs to read or delete a value of this size: the old
+ *           total, which is the total or one more
  *
  * Refusals: 10 for a size of 0 or above MOPSIENNA_MAX_SIZE.
  */
@@ -170,6 +173,13 @@ uint32_t mopsienna_total(uint64_t size, uint64_t out[8]);
 /*
  * A value is kept on `total` overflow pages (mopsienna_total), and a cell leads to them. Its writer
  * gets a number for each page (mopsienna_hand_out), writes the pages one by one, and keeps the cell.
+ *
+ * Stored values may have the old total: with r = size / 4,092 rounded up, r pages, if r is at most 15
+ * or r - 15 is at most (4,092 r - size) / 4 rounded down; else, with m = size + 4 (r - 15) - 4,092 r,
+ * r + (m + 4,089) / 4,088 rounded down. For some sizes, of which 4,243,403 is the least, this is a
+ * page more than needed. Both are read and deleted. Which one a value has is decided when the first
+ * page with value bytes has been taken: the new one, if as many numbers were found until then, in the
+ * cell and on all pages up to that one; else the old one, and the old one until then.
  *
  * A value page has the count of its numbers in bytes 0-1, the count of its value bytes in bytes 2-3,
  * then the numbers, 4 bytes each, then the value bytes; all little-endian. The numbers of the pages
@@ -223,10 +233,10 @@ uint32_t mopsienna_decode_cell(const uint8_t *cell, size_t cell_len, uint8_t has
                                uint64_t out[8]);
 
 /*
- * Reads the value of a cell. Its `total` pages are walked in the order in which their numbers are
- * found: those of the cell, and behind them those of each page. Page 0 is walked as any other. Every
- * chain that has `total` numbers and `size` bytes in the end, and on each page a number or a byte, is
- * read, whoever wrote it.
+ * Reads the value of a cell. Its `total` pages, of which the count is decided on the way (see above),
+ * are walked in the order in which their numbers are found: those of the cell, and behind them those
+ * of each page. Page 0 is walked as any other. Every chain that has `total` numbers and `size` bytes
+ * in the end, and on each page a number or a byte, is read, whoever wrote it.
  *
  *   out[0]  the size: value[0 .. size] holds the value
  *   out[1]  how many numbers were found, which is the total: numbers[0 .. total] holds them
@@ -238,7 +248,7 @@ uint32_t mopsienna_decode_cell(const uint8_t *cell, size_t cell_len, uint8_t has
  * Refusals, in this order:
  *   12  the cell has fewer than 44 bytes, or no multiple of 4
  *   10  its size is 0 or above MOPSIENNA_MAX_SIZE
- *   13  `numbers` is shorter than the total, or `value` than the size
+ *   13  `numbers` is shorter than the old total (out[3] of mopsienna_total), or `value` than the size
  * then page by page, with the page's index in the walk in out[0],
  *   14  no number is known for the page
  *   15  the page lies past the store
@@ -255,8 +265,10 @@ uint32_t mopsienna_read_value(const uint8_t *cell, size_t cell_len, const uint8_
 /*
  * Collects the numbers of the pages of a cell's value, so that they can be freed. They are found as
  * in mopsienna_read_value, but the walk ends with the first page that has value bytes, and no page
- * behind it is looked at: where mopsienna_write_value_page made the pages, those have no numbers. A
- * value that mopsienna_read_value reads, and that has numbers behind that page, gets 17 here.
+ * behind it is looked at: where mopsienna_write_value_page made the pages, those have no numbers. In
+ * other chains they may: a value that mopsienna_read_value reads, and that has numbers behind that
+ * page, gets 17 here; and one that has as many numbers as the new total up to that page, and more
+ * behind it, is deleted, though reading it gives 17.
  *
  *   out[0]  how many numbers were found, which is the total: numbers[0 .. total] holds them
  *

@@ -39,14 +39,15 @@ static void grow(uint32_t page, uint32_t status, uint64_t length) {
     expect(call, got, out, status, status == 0, &length);
 }
 
-static void total(uint64_t size, uint32_t status, uint64_t pages, uint64_t cell, uint64_t spare) {
+static void total(uint64_t size, uint32_t status, uint64_t pages, uint64_t cell, uint64_t spare,
+                  uint64_t room) {
     uint64_t out[8];
-    uint64_t values[3] = {pages, cell, spare};
+    uint64_t values[4] = {pages, cell, spare, room};
     char call[64];
     fill(out);
     snprintf(call, sizeof call, "total %llu", (unsigned long long)size);
     uint32_t got = mopsienna_total(size, out);
-    expect(call, got, out, status, status == 0 ? 3 : 0, values);
+    expect(call, got, out, status, status == 0 ? 4 : 0, values);
 }
 
 /* What a place of a table, a number list or a page buffer holds before a call. */
@@ -365,18 +366,19 @@ int main(void) {
     grow(MOPSIENNA_MAX_BUMP + 1, MOPSIENNA_LIMIT, 0);
     grow(UINT32_MAX, MOPSIENNA_LIMIT, 0);
 
-    total(1, 0, 1, 1, 4091);
-    total(61380, 0, 15, 15, 0);
-    total(61381, 0, 16, 15, 4087);
-    total(65468, 0, 16, 15, 0);
-    total(65469, 0, 17, 15, 4087);
-    total(4243402, 0, 1038, 15, 2);
-    total(4243403, 0, 1039, 15, 4089);
-    total(4243404, 0, 1039, 15, 4088);
-    total(MOPSIENNA_MAX_SIZE, 0, 131329, 15, 2100);
-    total(0, MOPSIENNA_SIZE, 0, 0, 0);
-    total(MOPSIENNA_MAX_SIZE + 1, MOPSIENNA_SIZE, 0, 0, 0);
-    total(UINT64_MAX, MOPSIENNA_SIZE, 0, 0, 0);
+    total(1, 0, 1, 1, 4091, 1);
+    total(61380, 0, 15, 15, 0, 15);
+    total(61381, 0, 16, 15, 4087, 16);
+    total(65468, 0, 16, 15, 0, 16);
+    total(65469, 0, 17, 15, 4087, 17);
+    total(4243402, 0, 1038, 15, 2, 1038);
+    total(4243403, 0, 1038, 15, 1, 1039);
+    total(4243404, 0, 1038, 15, 0, 1039);
+    total(4243405, 0, 1039, 15, 4087, 1039);
+    total(MOPSIENNA_MAX_SIZE, 0, 131329, 15, 2100, 131329);
+    total(0, MOPSIENNA_SIZE, 0, 0, 0, 0);
+    total(MOPSIENNA_MAX_SIZE + 1, MOPSIENNA_SIZE, 0, 0, 0, 0);
+    total(UINT64_MAX, MOPSIENNA_SIZE, 0, 0, 0, 0);
 
     printf("C interface: %d checks, %d wrong\n", checks, failures);
     return failures != 0;

@@ -1,6 +1,7 @@
 -- Document 01's marked samples at its page size, a row for each answer that they name. A row is about the definition that the operation's
--- contract cites: what is answered, and every place of what is lent, after the call; bytes are written out. Two rows are sums: that a page
--- less would do. The spare room is as document 02 has it, and the last two rows are of its empty value page.
+-- contract cites: what is answered, and every place of what is lent, after the call; bytes are written out. Document 01's totals are the old
+-- ones; two rows are sums: that a page less would do. The new totals and the spare room are as document 02 has them, and the last two rows
+-- are of its empty value page.
 use Rattle.std.specs.Prelude.{ℕ, ◌+◌, ◌*◌, ◌-◌, ◌^◌, ◌≡◌, false, List, [], ◌∷◌, ◌++◌, length, replicate}
 use Rattle.laws.specs.Counting.{numbers_from}
 use Rattle.refusal.specs.Outcome.{Outcome, answer, refused}
