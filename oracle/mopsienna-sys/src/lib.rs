@@ -150,7 +150,8 @@ pub fn grow(page: u32) -> Reply {
 /// Totals, lists and saves. All is inlined, so that where the form is known it costs nothing to
 /// choose.
 impl Form {
-    /// Answers the total of pages, the numbers in the cell and the spare room.
+    /// Answers the total of pages, the numbers in the cell, the spare room, and how many places a
+    /// reader's number table has to have.
     #[inline]
     pub fn total(self, size: u64) -> Reply {
         Reply::of(|out| self.total_into(size, out))

@@ -4,7 +4,7 @@
 //! never touched.
 
 use super::{
-    form::{call, in_both},
+    form::{call, in_both, words},
     Form, Out, Reply,
 };
 
@@ -25,6 +25,16 @@ extern "C" {
         cell_len: usize,
         hash: &mut Hash,
         out: &mut Out,
+    ) -> u32;
+    fn sized_write_old_value_page(
+        words: u64,
+        value: *const u8,
+        value_len: usize,
+        numbers: *const u32,
+        numbers_len: usize,
+        index: u64,
+        page: *mut u8,
+        page_len: usize,
     ) -> u32;
 }
 
@@ -123,6 +133,31 @@ impl Form {
                     page.as_mut_ptr(),
                     page.len(),
                 )
+            )
+        })
+    }
+
+    /// The same by the old total, as the Rust writes it. Only libsized has it, so it is called there in
+    /// every form.
+    #[inline]
+    pub fn write_old_value_page(
+        self,
+        value: &[u8],
+        numbers: &[u32],
+        index: u64,
+        page: &mut [u8],
+    ) -> Reply {
+        // SAFETY: the function reads only the value and the numbers, and writes only to the buffer.
+        Reply::of(|_| unsafe {
+            sized_write_old_value_page(
+                words(self.page_size() as u64),
+                value.as_ptr(),
+                value.len(),
+                numbers.as_ptr(),
+                numbers.len(),
+                index,
+                page.as_mut_ptr(),
+                page.len(),
             )
         })
     }
