@@ -12,7 +12,10 @@ const DIFFERENCES: [(&str, &[(u32, &str)]); 11] = [
             (7, "cuts the store to 8,192 pages"),
         ],
     ),
-    ("total", &[(10, "computes a total")]),
+    (
+        "total",
+        &[(0, "counts a page more"), (10, "computes a total")],
+    ),
     (
         "read_list",
         &[

@@ -68,8 +68,11 @@ fn numbers(plan: &Plan, tally: &mut Tally) -> io::Result<()> {
     Ok(())
 }
 
-/// The totals that are changed: of libmopsienna around its limits, of libsized one at each page size.
-const TOTALS: [(Form, u64); 10] = [
+/// The totals that are changed: of libmopsienna around its limits, of libsized one at each page size; of
+/// both one where the old total is not the new one.
+const TOTALS: [(Form, u64); 12] = [
+    (Form::Fixed, 4_243_403),
+    (Form::Sized(16), 203),
     (Form::Fixed, 61_381),
     (Form::Fixed, totals::MAX_SIZE),
     (Form::Fixed, totals::MAX_SIZE + 1),

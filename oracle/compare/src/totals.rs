@@ -1,5 +1,9 @@
 //! `total`: how many pages a value of some size takes, how many of their numbers are in its cell,
-//! and how many bytes of the pages are neither header nor number nor value; at several page sizes.
+//! how many bytes of the pages are neither header nor number nor value, and how many places a reader's
+//! number table has to have; at several page sizes.
+//!
+//! There are two totals. That of the Rust is the old one, which the room of a number table goes by; the
+//! new one, which all else goes by, is sought by its definition in document 02's request Nine.
 
 use crate::{
     panics::unless_panic,
@@ -15,8 +19,15 @@ use nomt_plain::Values;
 pub const MAX_SIZE: u64 = MAX_OVERFLOW_VALUE_SIZE as u64;
 const CELL_NUMBERS: u64 = MAX_OVERFLOW_CELL_NODE_POINTERS as u64;
 
+/// Every size up to this is taken, at every page size.
+const SMALL: u64 = 200_000;
+
 /// The refusal of size 0 and of sizes above the greatest.
 const SIZE_REFUSED: u32 = 10;
+
+/// Where the new total and the room of a number table stand in an answer.
+const TOTAL: usize = 0;
+const ROOM: usize = 3;
 
 /// With libsized, sizes around one random change of the total are taken for so many random cases.
 const CHANGES_SHARE: u64 = 10;
@@ -54,10 +65,10 @@ impl<L: Fn(Form, u64) -> Reply> Comparison<'_, L> {
         let mut random = Random::new(plan.seed);
         let mut check = |size| self.check::<R>(form, size);
 
-        (0..=200_000).for_each(&mut check);
+        (0..=SMALL).for_each(&mut check);
 
-        // Around every size at which the raw pages change, and every one at which the total does;
-        // with libsized, around random ones.
+        // Around every size at which the raw pages change, and every one at which a total does; with
+        // libsized, around random ones.
         let body = R::BODY_SIZE as u64;
         let most_pages = MAX_SIZE.div_ceil(body);
         let mut around = |raw_pages: u64| {
@@ -73,8 +84,8 @@ impl<L: Fn(Form, u64) -> Reply> Comparison<'_, L> {
                 .for_each(|_| around(1 + random.of_any_length(64) % most_pages)),
         }
 
-        // Here the Rust takes a page more than the value needs, if pages have 4,096 bytes.
-        (4_243_402..=4_243_404).for_each(&mut check);
+        // Here the old total is one more than the new one, if pages have 4,096 bytes.
+        (4_243_402..=4_243_405).for_each(&mut check);
 
         (MAX_SIZE - 3..=MAX_SIZE + 3).for_each(&mut check);
         [1 << 32, 1 << 63, u64::MAX]
@@ -90,6 +101,21 @@ impl<L: Fn(Form, u64) -> Reply> Comparison<'_, L> {
 
         if !plan.short && form == Form::Fixed {
             (1..=MAX_SIZE).for_each(&mut check);
+        }
+        self.from_one::<R>(form);
+    }
+
+    /// The new total of small sizes, sought from 1 up: it never falls as sizes rise.
+    fn from_one<R: Values>(&mut self, form: Form) {
+        let mut total = 1;
+        for size in 1..=SMALL {
+            while spare_room(R::BODY_SIZE as u64, total, size).is_none() {
+                total += 1;
+            }
+            if new_total::<R>(size) != total {
+                let text = || format!("{form}, size {size}: the least total is {total}");
+                self.report.disagree(size, text);
+            }
         }
     }
 
@@ -110,6 +136,13 @@ impl<L: Fn(Form, u64) -> Reply> Comparison<'_, L> {
             };
             self.report.class(SIZE_REFUSED, does, text);
         }
+        if expected.number == 0 && expected.out[TOTAL] != expected.out[ROOM] {
+            let does = match expected.out[ROOM] - expected.out[TOTAL] {
+                1 => "counts a page more",
+                _ => "counts more pages",
+            };
+            self.report.class(0, does, text);
+        }
         let got = (self.library)(form, size);
         self.report.check(size, &expected, &got, text);
     }
@@ -119,27 +152,37 @@ fn expected<R: Values>(size: u64) -> Reply {
     if !(1..=MAX_SIZE).contains(&size) {
         return Reply::refusal(SIZE_REFUSED, &[]);
     }
-    let total = R::total(size);
-    let spare = spare_room(R::BODY_SIZE as u64, total, size);
-    Reply::answer(&[total, total.min(CELL_NUMBERS), spare])
+    let total = new_total::<R>(size);
+    let spare = spare_room(R::BODY_SIZE as u64, total, size)
+        .expect("the pages have room for the value and their numbers");
+    Reply::answer(&[total, total.min(CELL_NUMBERS), spare, R::total(size)])
+}
+
+/// The least total whose pages have room, sought from the old one on: each page more is more room, so
+/// where a total has room and the one before it has none, it is the least.
+fn new_total<R: Values>(size: u64) -> u64 {
+    let has_room = |total| spare_room(R::BODY_SIZE as u64, total, size).is_some();
+    let mut total = R::total(size);
+    while !has_room(total) {
+        total += 1;
+    }
+    while has_room(total - 1) {
+        total -= 1;
+    }
+    total
 }
 
 /// The spare room as document 02's request One has it: body × total − size − 4 × (total − 15) where
-/// the total is above 15, and body × total − size up to 15. It is never negative.
-fn spare_room(body: u64, total: u64, size: u64) -> u64 {
-    let numbers = if total > CELL_NUMBERS {
-        4 * (total - CELL_NUMBERS)
-    } else {
-        0
-    };
-    (body * total)
-        .checked_sub(size + numbers)
-        .expect("the pages have no room for the value and their numbers")
+/// the total is above 15, and body × total − size up to 15. Where that is less than nothing, the pages
+/// have no room for the value and their numbers.
+fn spare_room(body: u64, total: u64, size: u64) -> Option<u64> {
+    let numbers = 4 * total.saturating_sub(CELL_NUMBERS);
+    (body * total).checked_sub(size + numbers)
 }
 
 /// How many lines are recorded of sizes like this, and what these are called.
 fn recorded<R: Values>(size: u64) -> (usize, &'static str) {
-    const SAMPLES: [u64; 10] = [
+    const SAMPLES: [u64; 11] = [
         1,
         61_380,
         61_381,
@@ -148,25 +191,28 @@ fn recorded<R: Values>(size: u64) -> (usize, &'static str) {
         4_243_402,
         4_243_403,
         4_243_404,
+        4_243_405,
         MAX_SIZE - 1,
         MAX_SIZE,
     ];
     let inside = (2..MAX_SIZE).contains(&size);
-    let changes =
-        inside && (R::total(size - 1) != R::total(size) || R::total(size) != R::total(size + 1));
+    let changes = inside
+        && [size - 1, size + 1]
+            .into_iter()
+            .any(|other| totals::<R>(other) != totals::<R>(size));
     match size {
         _ if SAMPLES.contains(&size) => (SAMPLES.len(), "samples"),
-        0..=200_000 if changes => (120, "first changes"),
+        0..=SMALL if changes => (120, "first changes"),
         _ if changes => (60, "changes"),
         _ if inside => (110, "others"),
         _ => (6, "none"),
     }
 }
 
-/// Finds the sizes above `low` and up to `high` whose total is not that of the size before,
+/// Finds the sizes above `low` and up to `high` of which a total is not that of the size before,
 /// halving the range until it is one size; totals never fall as sizes rise.
 fn changes<R: Values>(low: u64, high: u64, found: &mut impl FnMut(u64)) {
-    if R::total(low) == R::total(high) {
+    if totals::<R>(low) == totals::<R>(high) {
         return;
     }
     if low + 1 == high {
@@ -175,4 +221,9 @@ fn changes<R: Values>(low: u64, high: u64, found: &mut impl FnMut(u64)) {
     let middle = (low + high) / 2;
     changes::<R>(low, middle, found);
     changes::<R>(middle, high, found);
+}
+
+/// The new total and the old one.
+fn totals<R: Values>(size: u64) -> [u64; 2] {
+    [new_total::<R>(size), R::total(size)]
 }
