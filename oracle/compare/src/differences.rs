@@ -4,7 +4,7 @@
 use crate::{report::Report, Plan};
 
 /// By operation: the library's reply, and what the Rust does there.
-const DIFFERENCES: [(&str, &[(u32, &str)]); 11] = [
+const DIFFERENCES: [(&str, &[(u32, &str)]); 14] = [
     (
         "grow",
         &[
@@ -53,13 +53,18 @@ const DIFFERENCES: [(&str, &[(u32, &str)]); 11] = [
     ),
     (
         "write_value_page",
-        &[(0, "leaves the bytes past the value's"), (10, "panics")],
+        &[
+            (0, "leaves the bytes past the value's"),
+            (0, "writes a page more"),
+            (10, "panics"),
+        ],
     ),
     ("encode_cell", &[(10, "panics")]),
     ("decode_cell", &[(10, "panics"), (12, "panics")]),
     (
         "read_value",
         &[
+            (0, "panics"),
             (10, "panics"),
             (12, "panics"),
             (14, "panics"),
@@ -67,6 +72,7 @@ const DIFFERENCES: [(&str, &[(u32, &str)]); 11] = [
             (15, "reads it"),
             (16, "panics"),
             (17, "panics"),
+            (17, "reads it by the old total"),
             (18, "panics"),
             (25, "panics"),
             (25, "reads it"),
@@ -75,6 +81,7 @@ const DIFFERENCES: [(&str, &[(u32, &str)]); 11] = [
     (
         "delete_value",
         &[
+            (0, "panics"),
             (10, "panics"),
             (12, "panics"),
             (15, "deletes it"),
@@ -86,6 +93,12 @@ const DIFFERENCES: [(&str, &[(u32, &str)]); 11] = [
         ],
     ),
     ("lookup", &[(15, "panics"), (15, "reads it")]),
+    (
+        "write_value_page in histories",
+        &[(0, "writes a page more")],
+    ),
+    ("read_value in histories", &[(0, "panics")]),
+    ("delete_value in histories", &[(0, "panics")]),
 ];
 
 /// What only the long form sees.

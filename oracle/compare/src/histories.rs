@@ -3,7 +3,8 @@
 //! given up, and the history goes on from the list before them.
 //!
 //! Both sides go through all of it, and what they give is compared as for saves and values alone.
-//! The Rust writes values within its own save, which hands out their numbers.
+//! The Rust writes values within its own save, which hands out their numbers. Some values are by the new
+//! total where that is another: to these the Rust hands out numbers, and their pages are the model's.
 
 mod history;
 mod save;
@@ -32,7 +33,7 @@ pub const SAVES: [&str; 3] = [
     "read_list in histories",
 ];
 
-pub const VALUES: [&str; 7] = [
+pub const VALUES: [&str; 8] = [
     "write_value_page in histories",
     "encode_cell in histories",
     "decode_cell in histories",
@@ -40,6 +41,7 @@ pub const VALUES: [&str; 7] = [
     "delete_value in histories",
     "lookup in histories",
     "total in histories",
+    "write_old_value_page in histories",
 ];
 
 /// The replies that have to be reached, and no others, by report: those of a host that lends too
@@ -55,14 +57,16 @@ const SAVE_REPLIES: [&[u32]; 3] = [
     ],
     &[0],
 ];
-const VALUE_REPLIES: [&[u32]; 7] = [
-    &[0, value_model::BUFFER, value_model::INDEX],
+const WRITTEN: &[u32] = &[0, value_model::BUFFER, value_model::INDEX];
+const VALUE_REPLIES: [&[u32]; 8] = [
+    WRITTEN,
     &[0, value_model::ROOM],
     &[0],
     &[0, value_model::ROOM],
     &[0, value_model::ROOM],
     &[0],
     &[0],
+    WRITTEN,
 ];
 
 /// What happens in histories; all of it has to.
@@ -75,13 +79,14 @@ enum Event {
     Written,
     NumbersOnPages,
     PageOfNumbers,
+    APageLess,
     Deleted,
     DeletedAtOnce,
     Spoilt,
     ReadBack,
 }
 
-const EVENTS: [&str; 11] = [
+const EVENTS: [&str; 12] = [
     "saves",
     "given up before the finish",
     "given up after it",
@@ -89,6 +94,7 @@ const EVENTS: [&str; 11] = [
     "values written",
     "with numbers on pages",
     "with a page of numbers alone",
+    "with a page less than the Rust takes",
     "deleted",
     "written and deleted in one save",
     "pages handed out and freed in one save",
@@ -100,7 +106,7 @@ pub fn compare(
     plan: &Plan,
     saves: &dyn saves::Library,
     values: &dyn values::Library,
-) -> io::Result<([Report; 3], [Report; 7])> {
+) -> io::Result<([Report; 3], [Report; 8])> {
     let recorder = Recorder::default();
     let mut comparison = Comparison {
         saves: saves::Comparison::new(saves, &recorder, SAVES),
@@ -148,7 +154,7 @@ impl Comparison<'_> {
     }
 
     /// Adds what was reached, and a disagreement for everything that was not.
-    fn finish(self) -> ([Report; 3], [Report; 7]) {
+    fn finish(self) -> ([Report; 3], [Report; 8]) {
         let mut saves = self.saves.finish(SAVE_REPLIES);
         let report = &mut saves[saves::FINISH];
         for (at, event) in EVENTS.into_iter().enumerate() {

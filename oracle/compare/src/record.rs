@@ -28,6 +28,7 @@ pub enum Kind {
     ReadValue = 9,
     DeleteValue = 10,
     Lookup = 11,
+    WriteOldPage = 12,
 }
 
 /// One call.
@@ -187,7 +188,8 @@ impl Recorder {
     pub fn write(&self, path: &str, seed: u64, count: u64) -> io::Result<String> {
         let mut text = format!(
             "# Made by oracle/compare --record, seed {seed}, count {count}: status 0 is what the Rust gave, any other a refusal of the documents \
-             that the model in oracle/compare gives. Page lookup, kind 11, is the model's alone.\n"
+             that the model in oracle/compare gives. Page lookup, kind 11, is the model's alone, and so are values by a new total that is not the \
+             Rust's; kind 12 is writing by the Rust's.\n"
         );
         let mut counts: BTreeMap<(u32, u32), usize> = BTreeMap::new();
         for ((kind, number, _), class) in self.classes.borrow().iter() {

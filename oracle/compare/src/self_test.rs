@@ -8,7 +8,7 @@ use crate::{
     report::Report,
     saves::{self, FINISH, HAND_OUT, READ_BACK},
     totals,
-    values::{self, DECODE, DELETE, ENCODE, LOOKUP, READ, TOTAL, WRITE},
+    values::{self, DECODE, DELETE, ENCODE, LOOKUP, READ, TOTAL, WRITE, WRITE_OLD},
     Plan,
 };
 use changed::Changed;
@@ -98,7 +98,7 @@ const SAVE_PARTS: [(usize, Range<usize>); 3] = [
 
 /// The parts that are changed of each function of values. Writing pages and cells gives a number
 /// alone; of what is lent, it is the first and the last place of each.
-const VALUE_PARTS: [(usize, Range<usize>); 7] = [
+const VALUE_PARTS: [(usize, Range<usize>); 8] = [
     (WRITE, PARTS - 1..PARTS + 2),
     (ENCODE, PARTS - 1..PARTS + 2),
     (DECODE, 0..PARTS + 2),
@@ -106,6 +106,7 @@ const VALUE_PARTS: [(usize, Range<usize>); 7] = [
     (DELETE, 0..PARTS + 2),
     (LOOKUP, 0..PARTS),
     (TOTAL, 0..PARTS),
+    (WRITE_OLD, PARTS - 1..PARTS + 2),
 ];
 
 /// How many changes were made, and how many of them were not caught.

@@ -102,11 +102,11 @@ impl<L: Fn(Form, u64) -> Reply> Comparison<'_, L> {
         if !plan.short && form == Form::Fixed {
             (1..=MAX_SIZE).for_each(&mut check);
         }
-        self.from_one::<R>(form);
+        self.seek_from_one::<R>(form);
     }
 
     /// The new total of small sizes, sought from 1 up: it never falls as sizes rise.
-    fn from_one<R: Values>(&mut self, form: Form) {
+    fn seek_from_one<R: Values>(&mut self, form: Form) {
         let mut total = 1;
         for size in 1..=SMALL {
             while spare_room(R::BODY_SIZE as u64, total, size).is_none() {

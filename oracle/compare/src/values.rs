@@ -2,15 +2,17 @@
 //! at several page sizes.
 //!
 //! What stands on a page and in a cell comes from the Rust, and so does what the pages leave, which
-//! `total` has to tell. The Rust stops in other ways than the library, so what to expect of reading
-//! and deleting comes from a model of the documents. What the model reads or deletes the Rust has to
-//! read or delete in the same way; what it does with the rest is counted.
+//! `total` has to tell; but where the new total is not the Rust's, the pages come from a model of the
+//! documents. The Rust stops in other ways than the library, so what to expect of reading and deleting
+//! comes from that model too. What it reads or deletes by the Rust's total the Rust has to read or delete
+//! in the same way; what the Rust does with the rest is counted.
 
-mod calls;
+pub mod calls;
 pub mod case;
 mod cells;
 mod chains;
 mod damage;
+mod decided;
 mod fixed;
 mod largest;
 mod lent;
@@ -27,6 +29,7 @@ use nomt_plain::Values;
 use std::{collections::BTreeMap, io};
 
 pub use library::{Library, Linked};
+use model::Writer;
 
 /// There is one random value of each kind for so many random cases of other operations, at each of
 /// the small page sizes.
@@ -40,8 +43,17 @@ pub const READ: usize = 3;
 pub const DELETE: usize = 4;
 pub const LOOKUP: usize = 5;
 pub const TOTAL: usize = 6;
+pub const WRITE_OLD: usize = 7;
 
-pub const OPERATIONS: [&str; 7] = [
+/// The report of writing pages by one of the totals.
+pub fn write(writer: Writer) -> usize {
+    match writer {
+        Writer::New => WRITE,
+        Writer::Old => WRITE_OLD,
+    }
+}
+
+pub const OPERATIONS: [&str; 8] = [
     "write_value_page",
     "encode_cell",
     "decode_cell",
@@ -49,6 +61,7 @@ pub const OPERATIONS: [&str; 7] = [
     "delete_value",
     "lookup",
     "total of a written value",
+    "write_old_value_page",
 ];
 
 /// How much is compared.
@@ -61,7 +74,7 @@ pub enum Extent {
 }
 
 /// Compares the library's functions of values and of page lookup.
-pub fn compare(plan: &Plan, library: &dyn Library) -> io::Result<[Report; 7]> {
+pub fn compare(plan: &Plan, library: &dyn Library) -> io::Result<[Report; 8]> {
     let extent = match (plan.short, plan.count) {
         (true, 0..=10_000) => Extent::Least,
         (true, _) => Extent::Short,
@@ -94,7 +107,7 @@ pub fn compare(plan: &Plan, library: &dyn Library) -> io::Result<[Report; 7]> {
 pub struct Comparison<'a> {
     library: &'a dyn Library,
     recorder: &'a Recorder,
-    pub reports: [Report; 7],
+    pub reports: [Report; 8],
     /// What the cases at hand are called.
     pub group: String,
     /// By group: how many cases were read and deleted on both sides, and how many of them are a
@@ -102,9 +115,12 @@ pub struct Comparison<'a> {
     groups: BTreeMap<String, [u64; 3]>,
 }
 
+/// The replies of writing a page, by either total.
+const WRITTEN: &[u32] = &[0, model::BUFFER, model::SIZE, model::INDEX];
+
 /// The replies that have to be reached, and no others, by report.
-const REPLIES: [&[u32]; 7] = [
-    &[0, model::BUFFER, model::SIZE, model::INDEX],
+const REPLIES: [&[u32]; 8] = [
+    WRITTEN,
     &[0, model::SIZE, model::ROOM],
     &[0, model::SIZE, model::CELL],
     &[
@@ -132,13 +148,14 @@ const REPLIES: [&[u32]; 7] = [
     ],
     &[0, model::BUFFER, model::PAST_STORE],
     &[0],
+    WRITTEN,
 ];
 
 impl<'a> Comparison<'a> {
     pub fn new(
         library: &'a dyn Library,
         recorder: &'a Recorder,
-        operations: [&'static str; 7],
+        operations: [&'static str; 8],
     ) -> Comparison<'a> {
         Comparison {
             library,
@@ -164,10 +181,16 @@ impl<'a> Comparison<'a> {
         self.group = format!("{form}, written");
         written::each::<R>(self, form, extent, &mut random, cases)?;
         written::left_bytes::<R>(self)?;
+        self.group = format!("{form}, decided");
+        decided::each::<R>(self, form, extent, &mut random)?;
         self.group = format!("{form}, other chains");
         chains::each::<R>(self, form, chains::without_empty, &mut random, cases)?;
         self.group = format!("{form}, empty pages");
         chains::each::<R>(self, form, chains::with_empty, &mut random, cases / 2)?;
+        if R::PAGE_SIZE < 100 {
+            self.group = format!("{form}, either total");
+            chains::each::<R>(self, form, chains::of_either_total, &mut random, cases)?;
+        }
         self.group = format!("{form}, any pages");
         chains::tangles::<R>(self, form, &mut random, cases)?;
         cells::each::<R>(self, &mut random, cases);
@@ -191,7 +214,7 @@ impl<'a> Comparison<'a> {
     }
 
     /// Adds what was reached, and a disagreement if it is not just these replies.
-    pub fn finish(mut self, replies: [&[u32]; 7]) -> [Report; 7] {
+    pub fn finish(mut self, replies: [&[u32]; 8]) -> [Report; 8] {
         for (report, numbers) in self.reports.iter_mut().zip(replies) {
             report.reached(numbers);
         }

@@ -5,7 +5,7 @@ use crate::{
     saves::model::After,
     values::{
         case::Case,
-        model::{first_filled, last_size},
+        model::{differing, first_filled, last_size},
         DELETE, READ,
     },
 };
@@ -204,7 +204,8 @@ impl<R: Values> History<R> {
         Ok(())
     }
 
-    /// Reads and deletes a value on both sides, which have to give what was written.
+    /// Reads and deletes a value on both sides, which have to give what was written; but the Rust does
+    /// not know the new total.
     pub fn look_at(&mut self, comparison: &mut Comparison, value: &Value) -> io::Result<()> {
         let text = format!("value of {} bytes in a history", value.bytes.len());
         self.case.look_at(&value.cell, text);
@@ -220,14 +221,16 @@ impl<R: Values> History<R> {
     }
 }
 
-/// Few pages mostly; more than a cell has numbers for; and now and then a first page full of numbers.
+/// Few pages mostly; more than a cell has numbers for; now and then a first page full of numbers, or a
+/// size whose totals differ.
 fn any_size(page_size: usize, random: &mut Random) -> usize {
     let (least, most) = match random.below(200) {
         0 => {
             let filled = first_filled(page_size);
             (filled - 2, filled + 3)
         }
-        1..=40 => (10, 24),
+        1 => return differing(page_size, 1),
+        2..=40 => (10, 24),
         _ => (0, 3),
     };
     let least = last_size(page_size, least);

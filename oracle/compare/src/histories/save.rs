@@ -11,7 +11,8 @@ use crate::{
         model::After,
     },
     values::{
-        model::{first_filled, total, CELL_NUMBERS},
+        calls::Writing,
+        model::{first_filled, new_total, old_total, pages, Writer, CELL_NUMBERS},
         written,
     },
 };
@@ -76,7 +77,8 @@ impl<R: Values> Open<R> {
         Ok(numbers)
     }
 
-    /// Writes a value to pages of the store and makes its cell.
+    /// Writes a value to pages of the store and makes its cell. Where the totals differ, it may be the
+    /// new one, which the Rust does not write: it only hands out the numbers.
     pub fn write(
         &mut self,
         history: &mut History<R>,
@@ -86,12 +88,32 @@ impl<R: Values> Open<R> {
     ) -> io::Result<Option<Rc<Value>>> {
         let mut bytes = vec![0; size];
         random.fill(&mut bytes);
-        let numbers = self.hand_out(history, comparison, total(R::PAGE_SIZE, size))?;
-        let chunked = R::chunk_in(&self.rust, &bytes)?;
+        let totals = [new_total, old_total].map(|total| total(R::PAGE_SIZE, size));
+        let total = random.pick(&totals);
+        let numbers = self.hand_out(history, comparison, total)?;
         let values = &mut comparison.values;
         let form = history.form;
-        let cell = written::compare::<R>(values, form, &bytes, &numbers, &chunked, random);
-        history.write(&chunked.pages);
+        let cell = if total == totals[1] {
+            let chunked = R::chunk_in(&self.rust, &bytes)?;
+            history.write(&chunked.pages);
+            written::compare::<R>(values, form, &bytes, &numbers, &chunked, random)
+        } else {
+            for _ in &numbers {
+                R::hand_out(&self.rust)?;
+            }
+            let pages = pages(R::PAGE_SIZE, &bytes, &numbers);
+            let writing = Writing {
+                writer: Writer::New,
+                value: &bytes,
+                numbers: &numbers,
+            };
+            written::compare_pages::<R>(values, form, writing, &pages, random);
+            history.write(&pages);
+            comparison.count(Event::APageLess);
+            let values = &mut comparison.values;
+            let in_cell = &numbers[..CELL_NUMBERS];
+            Some(written::compare_cell::<R>(values, size, in_cell, random))
+        };
 
         comparison.count(Event::Written);
         if numbers.len() > CELL_NUMBERS {

@@ -3,7 +3,11 @@
 use super::{changed_if, PARTS};
 use crate::{
     saves::{self, FINISH, HAND_OUT, READ_BACK},
-    values::{self, model::CELL_NUMBERS, DECODE, DELETE, ENCODE, LOOKUP, READ, TOTAL, WRITE},
+    values::{
+        self,
+        model::{Writer, CELL_NUMBERS},
+        Linked, DECODE, DELETE, ENCODE, LOOKUP, READ, TOTAL,
+    },
 };
 use mopsienna_sys::{
     values::{decode_cell, encode_cell, Hash},
@@ -112,13 +116,14 @@ impl values::Library for Changed {
     fn write_value_page(
         &self,
         form: Form,
+        writer: Writer,
         value: &[u8],
         numbers: &[u32],
         index: u64,
         page: &mut [u8],
     ) -> Reply {
-        let reply = form.write_value_page(value, numbers, index, page);
-        self.pass(WRITE, reply, !page.is_empty(), |part| {
+        let reply = Linked.write_value_page(form, writer, value, numbers, index, page);
+        self.pass(values::write(writer), reply, !page.is_empty(), |part| {
             change_end(page, part)
         })
     }

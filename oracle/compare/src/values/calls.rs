@@ -3,7 +3,8 @@
 
 use super::{
     lent::{numbers_text, untouched_bytes, untouched_numbers},
-    model, Comparison, Library, Linked, DECODE, DELETE, ENCODE, LOOKUP, READ, TOTAL, WRITE,
+    model::{self, Writer},
+    write, Comparison, Library, Linked, DECODE, DELETE, ENCODE, LOOKUP, READ, TOTAL,
 };
 use crate::{
     panics::unless_panic,
@@ -16,6 +17,14 @@ use nomt_plain::{Chunked, Values};
 /// The hash before a call.
 pub const UNTOUCHED_HASH: Hash = [0xA5; 32];
 
+/// A value that is to be written: by which total, its bytes and the numbers of its pages.
+#[derive(Clone, Copy)]
+pub struct Writing<'a> {
+    pub writer: Writer,
+    pub value: &'a [u8],
+    pub numbers: &'a [u32],
+}
+
 impl Comparison<'_> {
     /// Numbers past the greatest page size, which stand for it. What is expected is made by the
     /// library itself, whatever `self.library` changes.
@@ -26,18 +35,23 @@ impl Comparison<'_> {
             let form = Form::Sized(size);
             let text = || format!("page size {size}");
 
-            let write = |library: &dyn Library, form| {
+            let writing = |library: &dyn Library, form, writer| {
                 let mut page = untouched_bytes(bytes);
-                let reply = library.write_value_page(form, &[7], &[1], 0, &mut page);
+                let reply = library.write_value_page(form, writer, &[7], &[1], 0, &mut page);
                 (reply, page)
             };
-            let (expected, got) = (write(&Linked, greatest), write(self.library, form));
-            self.reports[WRITE].compare(&expected.0, &got.0, expected.1 == got.1, text);
+            for writer in [Writer::New, Writer::Old] {
+                let expected = writing(&Linked, greatest, writer);
+                let got = writing(self.library, form, writer);
+                let report = &mut self.reports[write(writer)];
+                report.compare(&expected.0, &got.0, expected.1 == got.1, text);
+            }
 
             let mut cell = [0; 44];
             let (size, number) = (1, 1);
             (cell[0], cell[40]) = (size, number);
-            let store = [vec![0; bytes], expected.1].concat();
+            let (_, page) = writing(&Linked, greatest, Writer::New);
+            let store = [vec![0; bytes], page].concat();
             let read = |library: &dyn Library, form| {
                 let (mut table, mut value) = (untouched_numbers(3), untouched_bytes(64));
                 let reply = library.read_value(form, &cell, &store, &mut table, &mut value);
@@ -65,32 +79,43 @@ impl Comparison<'_> {
         }
     }
 
-    /// Writing a page of a value, to a buffer of so many bytes, beside the pages of the Rust.
+    /// Writing a page of a value, to a buffer of so many bytes, beside these pages.
     pub fn write<R: Values>(
         &mut self,
         form: Form,
-        value: &[u8],
-        numbers: &[u32],
+        writing: Writing,
         index: u64,
         length: usize,
         pages: &[(u32, Vec<u8>)],
     ) {
+        let Writing {
+            writer,
+            value,
+            numbers,
+        } = writing;
         let mut got = untouched_bytes(length);
         let mut expected = got.clone();
-        let refusal = model::write(R::PAGE_SIZE, value.len(), numbers.len(), index, length);
+        let (bytes, count) = (value.len(), numbers.len());
+        let refusal = model::write(R::PAGE_SIZE, writer, bytes, count, index, length);
         let expected_reply = refusal.unwrap_or_else(|| {
             expected[..R::PAGE_SIZE].copy_from_slice(&pages[index as usize].1);
             Reply::answer(&[])
         });
         let written = expected_reply.number == 0;
-        let past_cell = numbers.len() > model::CELL_NUMBERS;
-        let most = if written { 24 } else { 1 };
+        let past_cell = count > model::CELL_NUMBERS;
+        let differ = model::totals_differ(R::PAGE_SIZE, bytes);
+        // Where the totals are the same, the pages are too.
+        let (kind, most, other) = match writer {
+            Writer::New => (Kind::WritePage, 24, true),
+            Writer::Old => (Kind::WriteOldPage, 2, differ),
+        };
+        let most = if written { most } else { 1 };
         self.recorder.keep(
             most,
             format!("{} {past_cell} {}", R::PAGE_SIZE, index == 0),
-            value.len() + numbers.len() + length,
+            bytes + count + length,
             || {
-                Line::new(Kind::WritePage)
+                Line::new(kind)
                     .number(R::PAGE_SIZE as u64)
                     .number(index)
                     .array(value)
@@ -98,35 +123,41 @@ impl Comparison<'_> {
                     .length(&expected)
                     .status(&expected_reply)
                     .places(&expected, if written { R::PAGE_SIZE } else { 0 })
-                    .long(written.then(|| {
-                        let first = index == 0 && !past_cell;
-                        format!("{} {past_cell} {} {first}", R::PAGE_SIZE, numbers.len() > 1)
+                    .long((other && (written || differ)).then(|| {
+                        let first = index == 0 && (differ || !past_cell);
+                        let many = count > 1;
+                        format!("{} {past_cell} {many} {first} {differ}", R::PAGE_SIZE)
                     }))
             },
         );
-        let reply = self
-            .library
-            .write_value_page(form, value, numbers, index, &mut got);
+        let library = self.library;
+        let reply = library.write_value_page(form, writer, value, numbers, index, &mut got);
         let same = got == expected;
-        self.reports[WRITE].compare(&expected_reply, &reply, same, || {
+        self.reports[write(writer)].compare(&expected_reply, &reply, same, || {
             format!(
-                "page size {}, size {}, {}, index {index}, buffer of {length}{}",
+                "page size {}, size {bytes}, {}, index {index}, buffer of {length}{}",
                 R::PAGE_SIZE,
-                value.len(),
                 numbers_text(numbers),
                 difference("page", &expected, &got),
             )
         });
     }
 
-    /// The total of a value beside the pages that the Rust wrote of it: how many there are, how many
-    /// of their numbers are in the cell, and what they leave.
-    pub fn total<R: Values>(&mut self, form: Form, size: usize, chunked: &Chunked) {
-        let pages = &chunked.pages;
+    /// The total of a value beside its pages by the new total: how many there are, how many of their
+    /// numbers are in the cell, and what they leave; and beside how many the Rust wrote, for which a
+    /// reader's number table needs room.
+    pub fn total<R: Values>(
+        &mut self,
+        form: Form,
+        size: usize,
+        pages: &[(u32, Vec<u8>)],
+        chunked: &Chunked,
+    ) {
         let expected = Reply::answer(&[
             pages.len() as u64,
             chunked.cell.len() as u64,
             pages.iter().map(|(_, page)| left(page)).sum(),
+            chunked.pages.len() as u64,
         ]);
         let got = self.library.total(form, size as u64);
         self.reports[TOTAL].compare(&expected, &got, true, || {

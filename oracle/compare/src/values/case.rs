@@ -2,7 +2,7 @@
 
 use super::{
     lent::numbers_text,
-    model::{CELL_NUMBERS, CELL_START},
+    model::{self, CELL_NUMBERS, CELL_START},
 };
 use common::{Random, Store};
 use mopsienna_sys::values::Hash;
@@ -52,8 +52,8 @@ pub type Laid = (u32, Vec<u32>, usize);
 const FILLED: usize = 1 << 18;
 
 impl Case {
-    /// A value of this size, written by the Rust to these pages of a store of so many bytes, and
-    /// then harmed.
+    /// A value of this size, written to these pages of a store of so many bytes, and then harmed. By the
+    /// old total it is written by the Rust, by the new one, where that is another, by the model.
     pub fn written<R: Values>(
         length: usize,
         size: usize,
@@ -63,10 +63,14 @@ impl Case {
         let mut random = Random::new((size + length) as u64);
         let mut value = vec![0; size];
         random.fill(&mut value);
-        let chunked = R::chunk(&value, numbers)?;
-        let cell = R::encode_cell(size as u64, any_hash(&mut random), &chunked.cell);
+        let pages = match numbers.len() == model::old_total(R::PAGE_SIZE, size) {
+            true => R::chunk(&value, numbers)?.pages,
+            false => model::pages(R::PAGE_SIZE, &value, numbers),
+        };
+        let in_cell = &numbers[..numbers.len().min(CELL_NUMBERS)];
+        let cell = R::encode_cell(size as u64, any_hash(&mut random), in_cell);
         let mut case = Case::empty(R::PAGE_SIZE, length, cell, &mut random)?;
-        for (page, bytes) in &chunked.pages {
+        for (page, bytes) in &pages {
             case.write(*page, 0, bytes);
         }
         case.text = format!(

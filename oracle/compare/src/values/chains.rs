@@ -1,9 +1,10 @@
-//! Pages that the writer would not write. The Rust reads those that end with exactly the total of
-//! numbers and the size of bytes, and so does the library where none of them is empty; others may be.
+//! Pages that the writer would not write. The Rust reads those that end with exactly the old total of
+//! numbers and the size of bytes, and so does the library where none of them is empty and the total is
+//! not decided to be the new one; others may be.
 
 use super::{
     case::{distinct, Case, Laid},
-    model::{self, last_size, total, CELL_NUMBERS},
+    model::{self, decided_total, differing, last_size, new_total, old_total, CELL_NUMBERS},
     Comparison, READ,
 };
 use crate::panics::unless_panic;
@@ -12,30 +13,60 @@ use mopsienna_sys::{Form, Reply};
 use nomt_plain::Values;
 use std::io;
 
-/// The size of a value, at pages of so many bytes, and how many empty pages its chain has.
-pub type Choice = fn(usize, &mut Random) -> (usize, usize);
+/// A chain that is to be laid out: the size of its value, and how many pages it has, of which so many are
+/// empty.
+pub struct Chain {
+    size: usize,
+    pages: usize,
+    empty: usize,
+}
+
+/// What chain to lay out, at pages of so many bytes.
+pub type Choice = fn(usize, &mut Random) -> Chain;
 
 /// Any size up to some pages, and no empty page.
-pub fn without_empty(page_size: usize, random: &mut Random) -> (usize, usize) {
+pub fn without_empty(page_size: usize, random: &mut Random) -> Chain {
     let most = last_size(page_size, random.pick(&[3, 15, 17, 30])) as u64;
-    (1 + random.below(most) as usize, 0)
+    let size = 1 + random.below(most) as usize;
+    Chain {
+        size,
+        pages: old_total(page_size, size),
+        empty: 0,
+    }
+}
+
+/// A size whose totals differ, or the one above it, and as many pages as one of them.
+pub fn of_either_total(page_size: usize, random: &mut Random) -> Chain {
+    let first = differing(page_size, 1 + random.below(30) as usize);
+    let size = first + random.below(2) as usize;
+    let totals = [new_total(page_size, size), old_total(page_size, size)];
+    Chain {
+        size,
+        pages: random.pick(&totals),
+        empty: 0,
+    }
 }
 
 /// A size that has more pages than the bytes take, as the numbers past the cell's have no room behind
 /// the bytes; and as many empty pages as these are more, or fewer.
-pub fn with_empty(page_size: usize, random: &mut Random) -> (usize, usize) {
+pub fn with_empty(page_size: usize, random: &mut Random) -> Chain {
     let body = page_size - 4;
     let past_cell = 1 + random.below(15) as usize;
     let taken = CELL_NUMBERS + past_cell;
     let too_little = body.min(4 * past_cell) as u64;
     let size = body * taken - random.below(too_little) as usize;
-    let most = total(page_size, size) - taken;
-    (size, 1 + random.below(most as u64) as usize)
+    let pages = old_total(page_size, size);
+    Chain {
+        size,
+        pages,
+        empty: 1 + random.below((pages - taken) as u64) as usize,
+    }
 }
 
-/// Passes on so many chains that the Rust reads: any count of numbers in the cell, the others anywhere
-/// on pages that come before they are needed, the bytes anywhere, empty pages anywhere, of which the
-/// first is refused, some pages without numbers more than once.
+/// Passes on so many chains, which the Rust reads if they have as many pages as the old total: any count
+/// of numbers in the cell, the others anywhere on pages that come before they are needed, the bytes
+/// anywhere, empty pages anywhere, of which the first is refused, some pages without numbers more than
+/// once.
 pub fn each<R: Values>(
     comparison: &mut Comparison,
     form: Form,
@@ -44,27 +75,39 @@ pub fn each<R: Values>(
     count: u64,
 ) -> io::Result<()> {
     for _ in 0..count {
-        let (size, empty) = choice(R::PAGE_SIZE, random);
-        let pages = total(R::PAGE_SIZE, size);
+        let Chain { size, pages, empty } = choice(R::PAGE_SIZE, random);
         let page_count = pages + 1 + random.below(3) as usize;
         let numbers = distinct(pages, page_count, random);
         let (cell, laid) = any_chain(R::PAGE_SIZE, size, empty, numbers, random);
         let length = page_count * R::PAGE_SIZE;
         let case = Case::laid_out::<R>(length, size, &cell, &laid, random)?;
 
-        let is_empty = |page: &Laid| page.1.is_empty() && page.2 == 0;
-        let reply = match laid.iter().position(is_empty) {
-            Some(index) => Reply::refusal(model::EMPTY, &[index as u64]),
-            None => Reply::answer(&[size as u64, pages as u64]),
-        };
+        let reply = as_laid(R::PAGE_SIZE, size, &cell, &laid);
         let model = model::read(R::PAGE_SIZE, &case.cell, case.store.bytes());
         let rust = unless_panic(|| R::read_value(&case.cell, case.store.file())).transpose()?;
-        if rust.is_none() || !model.is_ok_and(|walked| walked.reply == reply) {
+        let is_read = pages == old_total(R::PAGE_SIZE, size);
+        if rust.is_some() != is_read || !model.is_ok_and(|walked| walked.reply == reply) {
             comparison.reports[READ].disagree_at_call("the chain is none", || case.to_string());
         }
         comparison.check::<R>(form, &case)?;
     }
     Ok(())
+}
+
+/// What reading gives of pages that are laid out in the order of the walk, have each other's numbers and
+/// all the value's bytes.
+fn as_laid(page_size: usize, size: usize, cell: &[u32], laid: &[Laid]) -> Reply {
+    let pages = laid.len();
+    let first = laid.iter().take_while(|page| page.2 == 0).count();
+    let found = laid.iter().take(first + 1).map(|page| page.1.len());
+    let total = decided_total(page_size, size, cell.len() + found.sum::<usize>());
+    let is_empty = |page: &Laid| page.1.is_empty() && page.2 == 0;
+    match laid.iter().take(total).position(is_empty) {
+        Some(index) => Reply::refusal(model::EMPTY, &[index as u64]),
+        None if pages < total => Reply::refusal(model::UNKNOWN, &[pages as u64]),
+        None if pages > total => Reply::refusal(model::NUMBERS, &[]),
+        None => Reply::answer(&[size as u64, total as u64]),
+    }
 }
 
 /// The numbers in the cell and the pages, of a value whose pages have these numbers and are empty at
@@ -187,7 +230,8 @@ fn fitting_size(page_size: usize, cell: &[u32], laid: &[Laid]) -> usize {
         };
         numbers.extend(found);
         size += bytes;
-        if numbers.len() == index + 1 && total(page_size, size) == index + 1 {
+        let totals = [old_total(page_size, size), new_total(page_size, size)];
+        if numbers.len() == index + 1 && totals.contains(&(index + 1)) {
             return size;
         }
     }

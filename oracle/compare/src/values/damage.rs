@@ -5,7 +5,7 @@ use super::{
         distinct, Case,
         Harm::{self, Byte, Bytes, Cell, Empty, Length, More, Number, Numbers, Size, Zero},
     },
-    model::{last_size, page_count, total, CELL_NUMBERS, TOO_LARGE},
+    model::{differing, last_size, new_total, old_total, page_count, CELL_NUMBERS, TOO_LARGE},
     Comparison, Extent,
 };
 use common::Random;
@@ -23,7 +23,6 @@ pub fn every<R: Values>(
     random: &mut Random,
 ) -> io::Result<()> {
     let page = R::PAGE_SIZE;
-    let body = page - 4;
     let pages: &[usize] = match extent {
         Extent::Least => &[2],
         Extent::Short => &[3, 17],
@@ -31,33 +30,50 @@ pub fn every<R: Values>(
     };
     for pages in pages {
         let size = last_size(page, *pages) - random.below(3) as usize;
-        let pages = total(page, size);
-        let page_count = pages + 2;
-        let numbers = distinct(pages, page_count, random);
-        let mut harms = vec![];
-        for index in 0..pages {
-            harms.push(vec![Zero(index)]);
-            harms.extend((0..index).map(|other| vec![Empty(other), Empty(index)]));
-            for count in 0..=body as u16 / 4 + 1 {
-                for bytes in 0..=body as u16 + 1 {
-                    harms.push(vec![Numbers(index, count), Bytes(index, bytes)]);
-                }
-            }
-        }
-        for place in 0..pages {
-            let near = 0..=page_count as u32;
-            harms.extend(near.map(|number| vec![Number(place, number)]));
-        }
-        harms.extend((0..=120).map(|length| vec![Cell(length)]));
-        harms.extend((0..=page_count * page).map(|length| vec![Length(length)]));
-        let sizes = 0..=last_size(page, pages + 3) as u64;
-        harms.extend(sizes.map(|size| vec![Size(size)]));
-        for harms in harms {
-            let case = Case::written::<R>(page_count * page, size, &numbers, &harms)?;
-            comparison.check::<R>(form, &case)?;
-        }
+        every_harm::<R>(comparison, form, size, old_total(page, size), random)?;
+    }
+    if extent == Extent::Long {
+        let size = differing(page, 1);
+        every_harm::<R>(comparison, form, size, new_total(page, size), random)?;
     }
     every_empty::<R>(comparison, form, random)
+}
+
+/// The same on a value of this size by one of its totals.
+fn every_harm<R: Values>(
+    comparison: &mut Comparison,
+    form: Form,
+    size: usize,
+    pages: usize,
+    random: &mut Random,
+) -> io::Result<()> {
+    let page = R::PAGE_SIZE;
+    let body = page - 4;
+    let page_count = pages + 2;
+    let numbers = distinct(pages, page_count, random);
+    let mut harms = vec![];
+    for index in 0..pages {
+        harms.push(vec![Zero(index)]);
+        harms.extend((0..index).map(|other| vec![Empty(other), Empty(index)]));
+        for count in 0..=body as u16 / 4 + 1 {
+            for bytes in 0..=body as u16 + 1 {
+                harms.push(vec![Numbers(index, count), Bytes(index, bytes)]);
+            }
+        }
+    }
+    for place in 0..pages {
+        let near = 0..=page_count as u32;
+        harms.extend(near.map(|number| vec![Number(place, number)]));
+    }
+    harms.extend((0..=120).map(|length| vec![Cell(length)]));
+    harms.extend((0..=page_count * page).map(|length| vec![Length(length)]));
+    let sizes = 0..=last_size(page, pages + 3) as u64;
+    harms.extend(sizes.map(|size| vec![Size(size)]));
+    for harms in harms {
+        let case = Case::written::<R>(page_count * page, size, &numbers, &harms)?;
+        comparison.check::<R>(form, &case)?;
+    }
+    Ok(())
 }
 
 /// Passes on a value with an empty page at every place. Its pages with numbers alone, which deleting
@@ -70,7 +86,7 @@ fn every_empty<R: Values>(
     let page = R::PAGE_SIZE;
     let of_numbers = CELL_NUMBERS + 1;
     let size = last_size(page, CELL_NUMBERS + of_numbers * (page - 4) / 4) + 1;
-    let pages = total(page, size);
+    let pages = old_total(page, size);
     let page_count = pages + 2;
     let numbers = distinct(pages, page_count, random);
     for index in 0..pages {
@@ -80,7 +96,7 @@ fn every_empty<R: Values>(
     Ok(())
 }
 
-/// Passes on so many values with up to three harms each.
+/// Passes on so many values, by either total, with up to three harms each.
 pub fn random<R: Values>(
     comparison: &mut Comparison,
     form: Form,
@@ -94,7 +110,8 @@ pub fn random<R: Values>(
         let last = last_size(R::PAGE_SIZE, pages as usize);
         let any = 1 + random.below((last - first) as u64) as usize;
         let size = random.pick(&[first + 1, last, first + any]);
-        let pages = total(R::PAGE_SIZE, size);
+        let totals = [old_total(R::PAGE_SIZE, size), new_total(R::PAGE_SIZE, size)];
+        let pages = random.pick(&totals);
         let page_count = pages + 1 + random.below(4) as usize;
         let numbers = distinct(pages, page_count, random);
         let length = page_count * R::PAGE_SIZE + random.pick(&[0, 1, R::PAGE_SIZE - 1]);

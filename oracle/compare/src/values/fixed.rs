@@ -6,7 +6,7 @@ use super::{
         Harm::{self, Bytes, Cell, Empty, Length, More, Number, Numbers, Size, Zero},
         Laid,
     },
-    model::{first_filled, last_size, total, CELL_NUMBERS, MAX_SIZE, TOO_LARGE},
+    model::{differing, last_size, new_total, old_total, CELL_NUMBERS, MAX_SIZE, TOO_LARGE},
     Comparison, Extent,
 };
 use common::Random;
@@ -15,11 +15,10 @@ use nomt_plain::Values;
 use std::io;
 
 /// Passes on harmed values of one page, of two, of one more than a cell has numbers for, and, unless
-/// pages are large and little is compared, of as many as need a second page with numbers; and on the
-/// smallest ones that the Rust reads with an empty page.
+/// pages are large and little is compared, of the least size whose totals differ, by both: by the old one
+/// a second page has numbers; and on the smallest ones that the Rust reads with an empty page.
 pub fn each<R: Values>(comparison: &mut Comparison, form: Form, extent: Extent) -> io::Result<()> {
     let page = R::PAGE_SIZE;
-    let filled = first_filled(page);
     for harms in on_one_page(page) {
         let case = Case::written::<R>(2 * page, 1, &[1], &harms)?;
         comparison.check::<R>(form, &case)?;
@@ -30,13 +29,15 @@ pub fn each<R: Values>(comparison: &mut Comparison, form: Form, extent: Extent) 
     }
     for harms in on_many_pages(page, CELL_NUMBERS) {
         let size = last_size(page, CELL_NUMBERS) + 1;
-        many::<R>(comparison, form, size, &harms)?;
+        many::<R>(comparison, form, size, old_total(page, size), &harms)?;
     }
     one_empty::<R>(comparison, form)?;
     if page < 1000 || extent != Extent::Least {
-        for harms in on_many_pages(page, filled) {
-            let size = last_size(page, filled) + 1;
-            many::<R>(comparison, form, size, &harms)?;
+        let size = differing(page, 1);
+        for total in [new_total(page, size), old_total(page, size)] {
+            for harms in on_many_pages(page, total - 1) {
+                many::<R>(comparison, form, size, total, &harms)?;
+            }
         }
     }
     // As many pages as count, and more.
@@ -261,7 +262,7 @@ fn on_many_pages(page: usize, pages: usize) -> Vec<Vec<Harm>> {
 fn one_empty<R: Values>(comparison: &mut Comparison, form: Form) -> io::Result<()> {
     let page = R::PAGE_SIZE;
     let size = last_size(page, CELL_NUMBERS + 1) + 1;
-    let pages = total(page, size);
+    let pages = old_total(page, size);
     let numbers: Vec<u32> = (1..=pages as u32).collect();
     for empty in [0, pages / 2, pages - 1] {
         let mut left = size;
@@ -283,14 +284,14 @@ fn one_empty<R: Values>(comparison: &mut Comparison, form: Form) -> io::Result<(
     Ok(())
 }
 
-/// A value of many pages, 1 and so on, with one page behind them.
+/// A value of so many pages, 1 and so on, with one page behind them.
 fn many<R: Values>(
     comparison: &mut Comparison,
     form: Form,
     size: usize,
+    pages: usize,
     harms: &[Harm],
 ) -> io::Result<()> {
-    let pages = total(R::PAGE_SIZE, size);
     let numbers: Vec<u32> = (1..=pages as u32).collect();
     let length = (pages + 2) * R::PAGE_SIZE;
     let case = Case::written::<R>(length, size, &numbers, harms)?;

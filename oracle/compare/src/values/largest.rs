@@ -1,8 +1,9 @@
 //! The largest value, and one byte more.
 
 use super::{
+    calls::Writing,
     case::any_hash,
-    model::{self, MAX_SIZE},
+    model::{self, Writer, MAX_SIZE},
     Comparison, DELETE, READ, WRITE,
 };
 use crate::panics::unless_panic;
@@ -17,7 +18,8 @@ pub fn largest<R: Values>(
     form: Form,
     random: &mut Random,
 ) -> io::Result<()> {
-    let total = model::total(R::PAGE_SIZE, MAX_SIZE);
+    // It is the same by both totals.
+    let total = model::new_total(R::PAGE_SIZE, MAX_SIZE);
     // The pages lie about in the store: 7 has no common divisor with the count.
     let page_count = (total + 1).next_multiple_of(7) + 1;
     let numbers: Vec<u32> = (1..=total)
@@ -30,10 +32,17 @@ pub fn largest<R: Values>(
 
     let chunked = R::chunk(&value, &numbers)?;
     let cell = R::encode_cell(MAX_SIZE as u64, hash, &chunked.cell);
-    comparison.total::<R>(form, MAX_SIZE, &chunked);
+    comparison.total::<R>(form, MAX_SIZE, &chunked.pages, &chunked);
     for (index, (page, bytes)) in chunked.pages.iter().enumerate() {
-        let (index, length) = (index as u64, R::PAGE_SIZE + 1);
-        comparison.write::<R>(form, &value, &numbers, index, length, &chunked.pages);
+        for writer in [Writer::New, Writer::Old] {
+            let writing = Writing {
+                writer,
+                value: &value,
+                numbers: &numbers,
+            };
+            let (index, length) = (index as u64, R::PAGE_SIZE + 1);
+            comparison.write::<R>(form, writing, index, length, &chunked.pages);
+        }
         store.bytes_mut()[*page as usize * R::PAGE_SIZE..][..R::PAGE_SIZE].copy_from_slice(bytes);
     }
     drop(chunked);
@@ -62,7 +71,7 @@ pub fn largest<R: Values>(
 /// What the Rust does with a value of one byte more.
 pub fn one_more<R: Values>(comparison: &mut Comparison) -> io::Result<()> {
     let size = MAX_SIZE + 1;
-    let total = model::total(R::PAGE_SIZE, size) as u32;
+    let total = model::old_total(R::PAGE_SIZE, size) as u32;
     let value = vec![0; size];
     let numbers: Vec<u32> = (1..=total).collect();
     let chunked = unless_panic(|| R::chunk(&value, &numbers)).transpose()?;

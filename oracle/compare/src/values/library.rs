@@ -1,5 +1,6 @@
 //! The library's functions of values and of page lookup, with and without a page size.
 
+use super::model::Writer;
 use mopsienna_sys::{
     values::{self as linked, Hash},
     Form, Reply,
@@ -11,6 +12,7 @@ pub trait Library {
     fn write_value_page(
         &self,
         form: Form,
+        writer: Writer,
         value: &[u8],
         numbers: &[u32],
         index: u64,
@@ -47,12 +49,16 @@ impl Library for Linked {
     fn write_value_page(
         &self,
         form: Form,
+        writer: Writer,
         value: &[u8],
         numbers: &[u32],
         index: u64,
         page: &mut [u8],
     ) -> Reply {
-        form.write_value_page(value, numbers, index, page)
+        match writer {
+            Writer::New => form.write_value_page(value, numbers, index, page),
+            Writer::Old => form.write_old_value_page(value, numbers, index, page),
+        }
     }
 
     fn encode_cell(&self, size: u64, hash: &Hash, numbers: &[u32], cell: &mut [u8]) -> Reply {

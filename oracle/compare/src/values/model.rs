@@ -27,8 +27,25 @@ pub const CELL_NUMBERS: usize = 15;
 /// Where the numbers start in a cell.
 pub const CELL_START: usize = 40;
 
-/// How many pages a value takes.
-pub fn total(page_size: usize, size: usize) -> usize {
+/// By which total a value is written.
+#[derive(Clone, Copy)]
+pub enum Writer {
+    New,
+    Old,
+}
+
+impl Writer {
+    /// How many pages a value takes.
+    pub fn total(self, page_size: usize, size: usize) -> usize {
+        match self {
+            Writer::New => new_total(page_size, size),
+            Writer::Old => old_total(page_size, size),
+        }
+    }
+}
+
+/// The total of document 01.
+pub fn old_total(page_size: usize, size: usize) -> usize {
     let body = page_size - 4;
     let raw = size.div_ceil(body);
     if raw <= CELL_NUMBERS || raw - CELL_NUMBERS <= (body * raw - size) / 4 {
@@ -38,12 +55,41 @@ pub fn total(page_size: usize, size: usize) -> usize {
     raw + (m + body - 3) / (body - 4)
 }
 
-/// The greatest size that takes no more pages than so many. Totals never fall as sizes rise.
+/// The total of document 02's request Nine: the least whose pages have room for the value and for the
+/// numbers past the cell's. A page more is always more room, so it is sought from the old one on.
+pub fn new_total(page_size: usize, size: usize) -> usize {
+    let has_room =
+        |total: usize| (page_size - 4) * total >= size + 4 * total.saturating_sub(CELL_NUMBERS);
+    let mut total = old_total(page_size, size);
+    while !has_room(total) {
+        total += 1;
+    }
+    while total > 0 && has_room(total - 1) {
+        total -= 1;
+    }
+    total
+}
+
+/// Whether the two totals of a size are not the same.
+pub fn totals_differ(page_size: usize, size: usize) -> bool {
+    new_total(page_size, size) != old_total(page_size, size)
+}
+
+/// The least size of so many pages or more, by the old total, whose two totals differ. Among the sizes of
+/// one old total it is the first.
+pub fn differing(page_size: usize, pages: usize) -> usize {
+    let mut firsts = (pages - 1..).map(|pages| last_size(page_size, pages) + 1);
+    // From some total on there is one with each.
+    firsts.find(|size| totals_differ(page_size, *size)).unwrap()
+}
+
+/// The greatest size that takes no more pages than so many by the old total, which never falls as sizes
+/// rise.
 pub fn last_size(page_size: usize, pages: usize) -> usize {
     let (mut fits, mut does_not) = (0, page_size * pages + 1);
     while fits + 1 < does_not {
         let middle = (fits + does_not) / 2;
-        if total(page_size, middle) <= pages {
+        if old_total(page_size, middle) <= pages {
             fits = middle;
         } else {
             does_not = middle;
@@ -65,6 +111,7 @@ pub fn page_count(page_size: usize, store_length: usize) -> usize {
 /// The refusal of writing a page of a value, if it is refused, by the lengths of what is lent.
 pub fn write(
     page_size: usize,
+    writer: Writer,
     value: usize,
     numbers: usize,
     index: u64,
@@ -74,7 +121,7 @@ pub fn write(
     if value == 0 || value > MAX_SIZE {
         return refused(SIZE);
     }
-    let total = total(page_size, value);
+    let total = writer.total(page_size, value);
     if numbers != total || index >= total as u64 {
         return refused(INDEX);
     }
@@ -82,6 +129,28 @@ pub fn write(
         return refused(BUFFER);
     }
     None
+}
+
+/// The pages of a value over any total, by document 01's rule of what a page holds: there are as many
+/// as numbers.
+pub fn pages(page_size: usize, value: &[u8], numbers: &[u32]) -> Vec<(u32, Vec<u8>)> {
+    let body = page_size - 4;
+    let mut numbers_left = numbers.get(CELL_NUMBERS..).unwrap_or(&[]);
+    let mut bytes_left = value;
+    let page = |number: &u32| {
+        let most = numbers_left.len().min(body / 4);
+        let (on_page, later) = numbers_left.split_at(most);
+        let most = bytes_left.len().min(body - 4 * on_page.len());
+        let (bytes, rest) = bytes_left.split_at(most);
+        (numbers_left, bytes_left) = (later, rest);
+        let counts = [on_page.len() as u16, bytes.len() as u16];
+        let mut page = counts.map(u16::to_le_bytes).concat();
+        page.extend(on_page.iter().flat_map(|number| number.to_le_bytes()));
+        page.extend(bytes);
+        page.resize(page_size, 0);
+        (*number, page)
+    };
+    numbers.iter().map(page).collect()
 }
 
 /// The refusal of writing a cell, if it is refused.
@@ -112,14 +181,24 @@ pub fn decode_cell(cell: &[u8]) -> Result<Cell, Reply> {
 
 /// What reading or deleting a value gives where there is enough room.
 pub struct Walked {
-    /// How many numbers and bytes there has to be room for.
-    pub total: usize,
+    /// How many numbers and bytes there has to be room for. That of the numbers is the old total.
+    pub room: usize,
     pub size: usize,
+    /// The value's total, the old one or the new one.
+    pub total: usize,
     pub reply: Reply,
     /// The first `total` numbers found, none from a refused page.
     pub numbers: Vec<u32>,
     /// The value bytes found.
     pub bytes: Vec<u8>,
+}
+
+impl Walked {
+    /// Whether the value goes by the new total where the old one is another. The Rust knows the old one
+    /// alone.
+    pub fn is_new(&self) -> bool {
+        self.total != self.room
+    }
 }
 
 /// Reads the value of a cell. The refusals that come before any room is looked at are errors.
@@ -138,15 +217,21 @@ fn walk(page_size: usize, cell: &[u8], store: &[u8], deleting: bool) -> Result<W
         return Err(Reply::refusal(SIZE, &[]));
     }
     let size = cell.size as usize;
-    let total = total(page_size, size);
+    let room = old_total(page_size, size);
+    // The old one until the first page with value bytes is taken.
+    let mut decided = None;
     let mut numbers = cell.numbers;
     let mut bytes = vec![];
     let mut stopped = None;
-    for index in 0..total {
+    let mut index = 0;
+    while index < decided.unwrap_or(room) {
         match page(page_size, store, numbers.get(index)) {
             Ok((found, value)) => {
                 numbers.extend(found);
                 bytes.extend(value);
+                if !value.is_empty() && decided.is_none() {
+                    decided = Some(decided_total(page_size, size, numbers.len()));
+                }
                 if deleting && !value.is_empty() {
                     break;
                 }
@@ -156,7 +241,9 @@ fn walk(page_size: usize, cell: &[u8], store: &[u8], deleting: bool) -> Result<W
                 break;
             }
         }
+        index += 1;
     }
+    let total = decided.unwrap_or(room);
     let reply = match stopped {
         Some(refusal) => refusal,
         None if numbers.len() != total => Reply::refusal(NUMBERS, &[]),
@@ -166,12 +253,22 @@ fn walk(page_size: usize, cell: &[u8], store: &[u8], deleting: bool) -> Result<W
     };
     numbers.truncate(total);
     Ok(Walked {
-        total,
+        room,
         size,
+        total,
         reply,
         numbers,
         bytes,
     })
+}
+
+/// The total of a value with so many numbers found up to and including the first page with bytes: the
+/// new one if that is how many, else the old one.
+pub fn decided_total(page_size: usize, size: usize, found: usize) -> usize {
+    match new_total(page_size, size) {
+        new if new == found => new,
+        _ => old_total(page_size, size),
+    }
 }
 
 /// The numbers and the value bytes on a page that the walk comes to, or the refusal's number.

@@ -19,6 +19,9 @@ use std::io;
 const MOST_BYTES: usize = 1 << 23;
 const MOST_NUMBERS: usize = 1 << 18;
 
+/// The least page size.
+const LEAST_PAGE: usize = 16;
+
 /// The value, if it is read, and the numbers of its pages, if it is deleted.
 pub struct Found {
     pub value: Option<Vec<u8>>,
@@ -59,8 +62,12 @@ impl Comparison<'_> {
     ) -> io::Result<bool> {
         let file = case.store.file();
         let value = unless_panic(|| R::read_value(&case.cell, file)).transpose()?;
+        let is_new = is_new(model);
         if let Some(refusal) = refusal(model) {
             let does = match value {
+                Some(_) if is_new && refusal.number == model::NUMBERS => {
+                    "reads it by the old total"
+                }
                 Some(_) => "reads it",
                 None => "panics",
             };
@@ -68,6 +75,14 @@ impl Comparison<'_> {
             return Ok(false);
         }
         let steps = unless_panic(|| R::read_in_steps(&case.cell, file)).transpose()?;
+        if is_new {
+            let does = match (value, steps) {
+                (None, None) => "panics",
+                _ => "reads something",
+            };
+            self.reports[READ].class(0, does, || case.to_string());
+            return Ok(true);
+        }
         let agrees = model.as_ref().is_ok_and(|walked| {
             value.as_ref() == Some(&walked.bytes)
                 && steps.is_some_and(|steps| steps == (value, walked.numbers.clone()))
@@ -95,6 +110,14 @@ impl Comparison<'_> {
             self.reports[DELETE].class(refusal.number, does, || case.to_string());
             return Ok(false);
         }
+        if is_new(model) {
+            let does = match freed {
+                Some(_) => "deletes something",
+                None => "panics",
+            };
+            self.reports[DELETE].class(0, does, || case.to_string());
+            return Ok(true);
+        }
         let agrees = model
             .as_ref()
             .is_ok_and(|walked| freed.as_ref() == Some(&walked.numbers));
@@ -118,7 +141,7 @@ impl Comparison<'_> {
         let (mut expected_table, mut expected_value) = (table.clone(), value.clone());
         let expected = match model {
             Err(refusal) => refusal.clone(),
-            Ok(walked) if numbers < walked.total || bytes < walked.size => {
+            Ok(walked) if numbers < walked.room || bytes < walked.size => {
                 Reply::refusal(model::ROOM, &[])
             }
             Ok(walked) => {
@@ -178,7 +201,7 @@ impl Comparison<'_> {
         let mut expected_table = table.clone();
         let expected = match model {
             Err(refusal) => refusal.clone(),
-            Ok(walked) if numbers < walked.total => Reply::refusal(model::ROOM, &[]),
+            Ok(walked) if numbers < walked.room => Reply::refusal(model::ROOM, &[]),
             Ok(walked) => {
                 expected_table[..walked.numbers.len()].copy_from_slice(&walked.numbers);
                 walked.reply.clone()
@@ -212,9 +235,11 @@ impl Comparison<'_> {
         });
     }
 
-    /// What sets a long line apart beside the page size: for values as they were written, whether the
-    /// value has one page, more, or more than have their numbers in the cell; for empty pages, where
-    /// the table has more places than numbers were found, whether it is the first page.
+    /// What sets a long line apart beside the page size: for values whose totals differ, by which one it
+    /// goes, whether that is decided, and whether the chain is one around that place, refusals at the
+    /// least page size alone; for others as they were written, whether the value has one page, more, or
+    /// more than have their numbers in the cell; for empty pages, where the table has more places than
+    /// numbers were found, whether it is the first page.
     fn long_class(
         &self,
         case: &Case,
@@ -224,7 +249,14 @@ impl Comparison<'_> {
     ) -> Option<String> {
         let walked = model.as_ref().ok()?;
         let total = walked.total;
+        let differ = model::totals_differ(case.page_size, walked.size);
         let class = match expected.number {
+            number if differ && (number == 0 || case.page_size == LEAST_PAGE) => {
+                let decided = !walked.bytes.is_empty();
+                let around = self.group.ends_with("decided");
+                let at = refused_at(expected);
+                format!("differ {} {decided} {around} {at}", walked.is_new())
+            }
             0 if self.group.ends_with("written") => {
                 format!("{} {}", total > model::CELL_NUMBERS, total > 1)
             }
@@ -262,12 +294,17 @@ fn refusal(model: &Result<Walked, Reply>) -> Option<&Reply> {
     }
 }
 
+/// Whether the model goes by a new total that is not the old one.
+fn is_new(model: &Result<Walked, Reply>) -> bool {
+    model.as_ref().is_ok_and(Walked::is_new)
+}
+
 /// Room for numbers and bytes: as much as is needed and more, and each one place too short.
 fn rooms(model: &Result<Walked, Reply>) -> Vec<(usize, usize)> {
     let Ok(walked) = model else {
         return vec![(0, 0), (3, 9)];
     };
-    let (numbers, bytes) = (walked.total, walked.size);
+    let (numbers, bytes) = (walked.room, walked.size);
     if numbers > MOST_NUMBERS || bytes > MOST_BYTES {
         return vec![(0, 0), (20, 100)];
     }
@@ -283,7 +320,7 @@ fn rooms(model: &Result<Walked, Reply>) -> Vec<(usize, usize)> {
 fn number_rooms(model: &Result<Walked, Reply>) -> Vec<usize> {
     match model {
         Err(_) => vec![0, 3],
-        Ok(walked) if walked.total > MOST_NUMBERS => vec![0, 20],
-        Ok(walked) => vec![walked.total, walked.total + 2, walked.total - 1],
+        Ok(walked) if walked.room > MOST_NUMBERS => vec![0, 20],
+        Ok(walked) => vec![walked.room, walked.room + 2, walked.room - 1],
     }
 }

@@ -1,9 +1,16 @@
 //! Values written by both sides, their cells, and the values read back from a store.
+//!
+//! The Rust's pages are those of the old total. The pages of the new one are the same where both totals
+//! are, and else come from the model.
 
 use super::{
+    calls::Writing,
     case::{any_hash, distinct, Case},
-    model::{self, first_filled, last_size, total, CELL_NUMBERS, CELL_START},
-    Comparison, Extent, WRITE,
+    model::{
+        self, differing, first_filled, last_size, new_total, old_total, Writer, CELL_NUMBERS,
+        CELL_START,
+    },
+    Comparison, Extent, WRITE, WRITE_OLD,
 };
 use crate::panics::unless_panic;
 use common::Random;
@@ -26,7 +33,7 @@ pub fn each<R: Values>(
     for _ in 0..count {
         let size = 1 + random.of_any_length(most.ilog2() + 1) as usize % most;
         if random.below(4) == 0 {
-            let pages = total(R::PAGE_SIZE, size);
+            let pages = old_total(R::PAGE_SIZE, size);
             let numbers: Vec<u32> = (0..pages).map(|_| random.bits() as u32).collect();
             write::<R>(comparison, form, size, &numbers, random)?;
         } else {
@@ -59,12 +66,13 @@ fn most_pages<R: Values>(extent: Extent) -> usize {
         (_, 4096) => filled + 3,
         (_, 1024) => 2 * filled,
         (Extent::Short, _) => 60,
-        (Extent::Long, _) => 200,
+        (Extent::Long, _) => 400,
     }
 }
 
 /// The sizes around every change of the total, or, where pages are large and the run is short, around
-/// those at which the cell and the first page are filled with numbers.
+/// those at which the cell and the first page are filled with numbers; and around the first ones whose
+/// totals differ, in a long run also around later ones.
 fn sizes<R: Values>(extent: Extent) -> Vec<usize> {
     let most = most_pages::<R>(extent);
     if R::PAGE_SIZE < 100 && extent != Extent::Least {
@@ -83,10 +91,22 @@ fn sizes<R: Values>(extent: Extent) -> Vec<usize> {
         let last = last_size(R::PAGE_SIZE, pages);
         sizes.extend([first, first + 1, last - 1, last]);
     }
+    let differing_from: &[usize] = match (extent, R::PAGE_SIZE) {
+        (Extent::Least, 100..) => &[],
+        (Extent::Long, _) => &[1, 1_200, 1_500, 2_000],
+        _ => &[1],
+    };
+    for pages in differing_from {
+        let first = differing(R::PAGE_SIZE, *pages);
+        sizes.extend(first - 1..=first + 2);
+    }
+    sizes.sort();
+    sizes.dedup();
     sizes
 }
 
-/// Writes a value of this size to pages of a store, and reads it back from there.
+/// Writes a value of this size to pages of a store, and reads it back from there, by each total that it
+/// has.
 fn read_back<R: Values>(
     comparison: &mut Comparison,
     form: Form,
@@ -94,12 +114,15 @@ fn read_back<R: Values>(
     random: &mut Random,
 ) -> io::Result<()> {
     let page = R::PAGE_SIZE;
-    let pages = total(page, size);
+    let pages = old_total(page, size);
     let page_count = pages + random.below(3 + pages as u64 / 4) as usize;
     let numbers = distinct(pages, page_count, random);
     write::<R>(comparison, form, size, &numbers, random)?;
     let length = page_count * page + random.pick(&[0, 1, page - 1]);
-    comparison.check::<R>(form, &Case::written::<R>(length, size, &numbers, &[])?)?;
+    for total in new_total(page, size)..=pages {
+        let case = Case::written::<R>(length, size, &numbers[..total], &[])?;
+        comparison.check::<R>(form, &case)?;
+    }
     Ok(())
 }
 
@@ -115,15 +138,15 @@ fn write<R: Values>(
     random.fill(&mut value);
     let text = || format!("page size {}, size {size}", R::PAGE_SIZE);
     let Some(chunked) = unless_panic(|| R::chunk(&value, numbers)).transpose()? else {
-        comparison.reports[WRITE].disagree_at_call("the Rust panics", text);
+        comparison.reports[WRITE_OLD].disagree_at_call("the Rust panics", text);
         return Ok(());
     };
     compare::<R>(comparison, form, &value, numbers, &chunked, random);
     Ok(())
 }
 
-/// The library's total, pages and cell of a value beside those of the Rust. Gives the cell, unless the
-/// Rust takes other numbers.
+/// The library's total, cell and pages of a value, by each total, beside those of the Rust, which takes
+/// all the numbers. Gives the cell, unless the Rust takes others.
 pub fn compare<R: Values>(
     comparison: &mut Comparison,
     form: Form,
@@ -133,41 +156,83 @@ pub fn compare<R: Values>(
     random: &mut Random,
 ) -> Option<Vec<u8>> {
     let size = value.len();
+    let text = || format!("page size {}, size {size}", R::PAGE_SIZE);
     let cell = &numbers[..numbers.len().min(CELL_NUMBERS)];
     let at = chunked.pages.iter().map(|(page, _)| page);
     if chunked.total != numbers.len() || chunked.cell != cell || !at.eq(numbers) {
-        comparison.reports[WRITE].disagree_at_call("the Rust takes other pages", || {
-            format!("page size {}, size {size}", R::PAGE_SIZE)
-        });
+        comparison.reports[WRITE_OLD].disagree_at_call("the Rust takes other pages", text);
         return None;
     }
-
-    comparison.total::<R>(form, size, chunked);
     let page = R::PAGE_SIZE;
-    for index in 0..numbers.len() as u64 {
-        let length = random.pick(&[page, page, page + 1, page + 7, 2 * page]);
-        comparison.write::<R>(form, value, numbers, index, length, &chunked.pages);
+    if model::pages(page, value, numbers) != chunked.pages {
+        comparison.reports[WRITE_OLD].disagree_at_call("the model has other pages", text);
     }
-    refused::<R>(comparison, form, value, numbers, random);
 
-    let hash = any_hash(random);
-    let length = CELL_START + 4 * cell.len();
-    for length in [length, length - 1, length + 1 + random.below(9) as usize] {
-        comparison.encode::<R>(size as u64, &hash, cell, length);
+    let of_model;
+    let new_numbers = &numbers[..new_total(page, size)];
+    let new_pages = if new_numbers.len() == numbers.len() {
+        &chunked.pages
+    } else {
+        comparison.reports[WRITE].class(0, "writes a page more", text);
+        of_model = model::pages(page, value, new_numbers);
+        &of_model
+    };
+    comparison.total::<R>(form, size, new_pages, chunked);
+    for (writer, numbers, pages) in [
+        (Writer::Old, numbers, &chunked.pages),
+        (Writer::New, new_numbers, new_pages),
+    ] {
+        let writing = Writing {
+            writer,
+            value,
+            numbers,
+        };
+        compare_pages::<R>(comparison, form, writing, pages, random);
     }
-    let cell = R::encode_cell(size as u64, hash, cell);
+    Some(compare_cell::<R>(comparison, size, cell, random))
+}
+
+/// The library's pages of a value by one total beside these, and pages that it refuses.
+pub fn compare_pages<R: Values>(
+    comparison: &mut Comparison,
+    form: Form,
+    writing: Writing,
+    pages: &[(u32, Vec<u8>)],
+    random: &mut Random,
+) {
+    let page = R::PAGE_SIZE;
+    for index in 0..writing.numbers.len() as u64 {
+        let length = random.pick(&[page, page, page + 1, page + 7, 2 * page]);
+        comparison.write::<R>(form, writing, index, length, pages);
+    }
+    refused::<R>(comparison, form, writing, random);
+}
+
+/// The library's cell of a value beside the Rust's, which is given.
+pub fn compare_cell<R: Values>(
+    comparison: &mut Comparison,
+    size: usize,
+    numbers: &[u32],
+    random: &mut Random,
+) -> Vec<u8> {
+    let hash = any_hash(random);
+    let length = CELL_START + 4 * numbers.len();
+    for length in [length, length - 1, length + 1 + random.below(9) as usize] {
+        comparison.encode::<R>(size as u64, &hash, numbers, length);
+    }
+    let cell = R::encode_cell(size as u64, hash, numbers);
     comparison.decode::<R>(&cell);
-    Some(cell)
+    cell
 }
 
 /// Pages that are refused: indexes past the last, one number less and more, and short buffers.
 fn refused<R: Values>(
     comparison: &mut Comparison,
     form: Form,
-    value: &[u8],
-    numbers: &[u32],
+    writing: Writing,
     random: &mut Random,
 ) {
+    let numbers = writing.numbers;
     let total = numbers.len() as u64;
     let page = R::PAGE_SIZE;
     let any = random.below(total);
@@ -186,7 +251,8 @@ fn refused<R: Values>(
         (&more, total, page),
         (&[], 0, page),
     ] {
-        comparison.write::<R>(form, value, numbers, index, length, &[]);
+        let writing = Writing { numbers, ..writing };
+        comparison.write::<R>(form, writing, index, length, &[]);
     }
 }
 
@@ -201,7 +267,14 @@ fn no_value<R: Values>(comparison: &mut Comparison, form: Form) {
             (&[1], 1, R::PAGE_SIZE),
             (&[1], 0, R::PAGE_SIZE - 1),
         ] {
-            comparison.write::<R>(form, value, numbers, index, length, &[]);
+            for writer in [Writer::New, Writer::Old] {
+                let writing = Writing {
+                    writer,
+                    value,
+                    numbers,
+                };
+                comparison.write::<R>(form, writing, index, length, &[]);
+            }
         }
     }
     let text = || format!("page size {}, size 0", R::PAGE_SIZE);
