@@ -1,7 +1,8 @@
 //! Page totals and cells.
 //!
-//! `total-SIZE` is how many pages a value takes, how many of their numbers go to its cell and how many
-//! bytes are left; the Rust's side is its `total_needed_pages` in a function that gives the same.
+//! `total-SIZE` is how many pages a value takes, how many of their numbers go to its cell, how many bytes
+//! are left, and the old total; the Rust's side is its `total_needed_pages` in a function that gives the
+//! same, as both totals of these sizes are.
 //! `encode_cell` writes a cell of 15 numbers, to a buffer that is there
 //! already; the Rust's makes a vector. `decode_cell` reads it: the hash is copied on both sides, and
 //! the Rust's goes through the numbers, which the library only counts.
@@ -56,17 +57,17 @@ fn repeated(mut call: impl FnMut() + 'static) -> Work {
 
 /// What the library answers, from the Rust's total.
 #[inline(never)]
-fn rust_total(size: u64) -> [u64; 3] {
+fn rust_total(size: u64) -> [u64; 4] {
     let total = total_needed_pages(size as usize);
     let in_cell = total.min(NUMBERS.len());
     let spare = BODY_SIZE * total - size as usize - 4 * (total - in_cell);
-    [total, in_cell, spare].map(|number| number as u64)
+    [total, in_cell, spare, total].map(|number| number as u64)
 }
 
 fn totalling(size: u64) -> (Work, Work) {
     let mut out = UNTOUCHED;
     assert_eq!(Form::Fixed.total_into(size, &mut out), 0);
-    assert!(out[..3] == rust_total(size));
+    assert!(out[..4] == rust_total(size));
     let ours = repeated(move || {
         black_box(Form::Fixed.total_into(black_box(size), &mut out));
         black_box(&mut out);

@@ -1,5 +1,7 @@
 //! Writing, reading and deleting values.
 //!
+//! The sizes are such that the new total is the Rust's, so that both sides write and read the same pages.
+//!
 //! `write-SIZE-page` writes all pages of a value, one call for each, to the same buffer of one page;
 //! `write-SIZE-buffer` writes them one after another to a buffer for all. The library is lent the
 //! numbers of the pages. The Rust's side is its `chunk` in both rows: it hands out the numbers and

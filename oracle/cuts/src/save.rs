@@ -2,7 +2,7 @@
 
 use crate::{
     disk::{Disk, Write},
-    values::{cell, total},
+    values::{cell, new_total, old_total},
 };
 use mopsienna_sys::{Form, Lent, Save};
 use random::Random;
@@ -69,13 +69,24 @@ impl State {
 
 impl Value {
     fn reads(&self, form: Form, store: &[u8]) -> bool {
-        let mut numbers = vec![FILLER; self.numbers.len()];
+        let mut numbers = self.table(form);
         let mut bytes = vec![0xA5; self.bytes.len() + 1];
         let reply = form.read_value(&self.cell, store, &mut numbers, &mut bytes);
         reply.number == 0
-            && numbers == self.numbers
+            && self.is_in(&numbers)
             && bytes[..self.bytes.len()] == self.bytes[..]
             && bytes[self.bytes.len()] == 0xA5
+    }
+
+    /// A number table with just the room that is needed.
+    fn table(&self, form: Form) -> Vec<u32> {
+        vec![FILLER; old_total(form.page_size(), self.bytes.len())]
+    }
+
+    /// Whether the table has the value's numbers and nothing else.
+    fn is_in(&self, table: &[u32]) -> bool {
+        let (numbers, others) = table.split_at(self.numbers.len());
+        numbers == self.numbers && others.iter().all(|number| *number == FILLER)
     }
 }
 
@@ -159,16 +170,23 @@ impl<'a> Open<'a> {
         reply.out[0] as u32
     }
 
+    /// Writes a value, now and then by the old total.
     fn write(&mut self, size: usize) -> Value {
         let mut bytes = vec![0; size];
         self.random.fill(&mut bytes);
-        let total = total(self.form.page_size(), size);
-        let numbers: Vec<u32> = (0..total).map(|_| self.hand_out()).collect();
+        let old = self.random.below(4) == 0;
+        let (form, page_size) = (self.form, self.form.page_size());
+        let total = if old { old_total } else { new_total };
+        let numbers: Vec<u32> = (0..total(page_size, size))
+            .map(|_| self.hand_out())
+            .collect();
         for (index, number) in numbers.iter().enumerate() {
-            let mut page = vec![0xA5; self.form.page_size()];
-            let reply = self
-                .form
-                .write_value_page(&bytes, &numbers, index as u64, &mut page);
+            let mut page = vec![0xA5; page_size];
+            let index = index as u64;
+            let reply = match old {
+                true => form.write_old_value_page(&bytes, &numbers, index, &mut page),
+                false => form.write_value_page(&bytes, &numbers, index, &mut page),
+            };
             assert_eq!(reply.number, 0, "a value page is written");
             self.writes.push(Write {
                 number: *number,
@@ -184,11 +202,11 @@ impl<'a> Open<'a> {
     }
 
     fn delete(&mut self, value: &Value, store: &[u8]) {
-        let mut numbers = vec![FILLER; value.numbers.len()];
+        let mut numbers = value.table(self.form);
         let reply = self.form.delete_value(&value.cell, store, &mut numbers);
         assert_eq!(reply.number, 0, "a value that was saved is deleted");
-        assert!(numbers == value.numbers, "deleting finds the value's pages");
-        self.freed.extend(numbers);
+        assert!(value.is_in(&numbers), "deleting finds the value's pages");
+        self.freed.extend(&value.numbers);
     }
 
     fn spoil(&mut self) {

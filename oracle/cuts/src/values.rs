@@ -1,12 +1,12 @@
-//! How many pages a value takes, and its cell.
+//! How many pages a value takes, by the old total and by the new one, and its cell.
 
 use mopsienna_sys::values::encode_cell;
 
 /// How many numbers go to a cell.
 const IN_CELL: usize = 15;
 
-/// How many pages a value takes.
-pub fn total(page_size: usize, size: usize) -> usize {
+/// How many pages a stored value may take, and places the number table of a reader has to have.
+pub fn old_total(page_size: usize, size: usize) -> usize {
     let body = page_size - 4;
     let raw = size.div_ceil(body);
     if raw <= IN_CELL || raw - IN_CELL <= (body * raw - size) / 4 {
@@ -14,6 +14,15 @@ pub fn total(page_size: usize, size: usize) -> usize {
     }
     let missing = size + 4 * (raw - IN_CELL) - body * raw;
     raw + (missing + body - 3) / (body - 4)
+}
+
+/// How many pages a new value takes: the fewest that have room for it and for the numbers past the
+/// cell's.
+pub fn new_total(page_size: usize, size: usize) -> usize {
+    let has_room =
+        |total: usize| (page_size - 4) * total >= size + 4 * total.saturating_sub(IN_CELL);
+    // There is such a count: a page has room for more than a number.
+    (1..).find(|total| has_room(*total)).unwrap()
 }
 
 /// The cell of a value with these pages.
