@@ -171,15 +171,17 @@ uint32_t mopsienna_finish(uint32_t bump, uint32_t length, uint64_t P, uint64_t L
 uint32_t mopsienna_total(uint64_t size, uint64_t out[8]);
 
 /*
- * A value is kept on `total` overflow pages (mopsienna_total), and a cell leads to them. Its writer
- * gets a number for each page (mopsienna_hand_out), writes the pages one by one, and keeps the cell.
+ * A value is kept on overflow pages, and a cell leads to them. Its writer gets a number for each page
+ * (mopsienna_hand_out), writes the pages one by one, and keeps the cell. There are as many pages as
+ * the new total, out[0] of mopsienna_total.
  *
  * Stored values may have the old total: with r = size / 4,092 rounded up, r pages, if r is at most 15
  * or r - 15 is at most (4,092 r - size) / 4 rounded down; else, with m = size + 4 (r - 15) - 4,092 r,
  * r + (m + 4,089) / 4,088 rounded down. For some sizes, of which 4,243,403 is the least, this is a
  * page more than needed. Both are read and deleted. Which one a value has is decided when the first
- * page with value bytes has been taken: the new one, if as many numbers were found until then, in the
- * cell and on all pages up to that one; else the old one, and the old one until then.
+ * page with value bytes has been taken: the new one, if as many numbers were found by then, in the
+ * cell, on the pages before that one and on that one; else the old one, and the old one until then.
+ * A reader that knows the old total alone, as nomt's, does not read new values of such a size.
  *
  * A value page has the count of its numbers in bytes 0-1, the count of its value bytes in bytes 2-3,
  * then the numbers, 4 bytes each, then the value bytes; all little-endian. The numbers of the pages
@@ -197,7 +199,7 @@ uint32_t mopsienna_total(uint64_t size, uint64_t out[8]);
  *
  * Refusals, in this order:
  *   10  the value has no byte, or more than MOPSIENNA_MAX_SIZE
- *   11  there are not `total` numbers, or `index` is not below the total
+ *   11  there are not as many numbers as the new total, or `index` is not below it
  *   9   `page` is shorter than 4,096 bytes
  */
 uint32_t mopsienna_write_value_page(const uint8_t *value, size_t value_len, const uint32_t *numbers,
@@ -265,10 +267,12 @@ uint32_t mopsienna_read_value(const uint8_t *cell, size_t cell_len, const uint8_
 /*
  * Collects the numbers of the pages of a cell's value, so that they can be freed. They are found as
  * in mopsienna_read_value, but the walk ends with the first page that has value bytes, and no page
- * behind it is looked at: where mopsienna_write_value_page made the pages, those have no numbers. In
- * other chains they may: a value that mopsienna_read_value reads, and that has numbers behind that
- * page, gets 17 here; and one that has as many numbers as the new total up to that page, and more
- * behind it, is deleted, though reading it gives 17.
+ * behind it is looked at: where mopsienna_write_value_page made the pages, those have no numbers.
+ *
+ * So deleted is every chain of which no page up to that one is refused, and which has as many numbers
+ * by then as one of the two totals. What stands behind may still be refused when the value is read
+ * (15 to 18 and 25): with more numbers there, these are not told here. A value that
+ * mopsienna_read_value reads is deleted, unless it has numbers behind that page: then it gets 17.
  *
  *   out[0]  how many numbers were found, which is the total: numbers[0 .. total] holds them
  *
