@@ -13,11 +13,12 @@ use Rattle.laws.proofs.Tests.{and-true, and-true_right}
 use Rattle.refusal.specs.Outcome.{Outcome, answer, refused, check, with_answer}
 use Rattle.refusal.proofs.OutcomeLaws.{unanswer, check_answer, with_answer_answer, with_answer_refused}
 use Rattle.page.specs.PageSize.{IsPageSize}
-use Rattle.overflow.specs.Totals.{max_size, old_total}
+use Rattle.overflow.specs.Totals.{max_size, new_total, old_total}
 use Rattle.overflow.specs.Cells.{Cell, cell_header, cell_of, decode_cell, CellCounts, cell_counts}
 use Rattle.overflow.specs.Reading.{admitted, numbers_room, bytes_room}
-use Rattle.overflow.specs.Steps.{needs_of, admitted_needs, TotalNeeds}
-use Rattle.overflow.specs.declared.cell.ValueCounts.{ValueCounts}
+use Rattle.overflow.specs.Steps.{needs_of, admitted_needs, IsTotals}
+use Rattle.overflow.specs.declared.admit.Needs.{Needs}
+use Rattle.overflow.specs.declared.total.Totals.{Totals}
 use Rattle.overflow.proofs.TotalsLaws.{total_few}
 use Rattle.overflow.proofs.CellsLaws.{Decoding, decoded, not_decoded}
 
@@ -61,18 +62,18 @@ module _ (s : ℕ) (cell : List ℕ) (numbers bytes : ℕ) where
     unfolding admitted_needs admitted
     admit_empty z = rw (d.read, size_is, lt-leb 1 k.size (omega arith))
 
-    module _ (some : k.size ≢ 0) {total : ℕ} (t : total ≡ old_total s k.size) where
-      pub admit_numbers : numbers < total → refused 13 [] ≡ admitted_needs s numbers bytes cell
+    module _ (some : k.size ≢ 0) {totals : Totals} (t : IsTotals s k.size totals) where
+      pub admit_numbers : numbers < totals.old → refused 13 [] ≡ admitted_needs s numbers bytes cell
       unfolding admitted_needs admitted
-      admit_numbers h = rw (d.read, size_is, le-leb 1 k.size (omega arith), ← t, lt-leb total numbers h)
+      admit_numbers h = rw (d.read, size_is, le-leb 1 k.size (omega arith), ← t.old, lt-leb totals.old numbers h)
 
-      pub admit_bytes : total ≤ numbers → bytes < k.size → refused 13 [] ≡ admitted_needs s numbers bytes cell
+      pub admit_bytes : totals.old ≤ numbers → bytes < k.size → refused 13 [] ≡ admitted_needs s numbers bytes cell
       unfolding admitted_needs admitted
-      admit_bytes h b = rw (d.read, size_is, le-leb 1 k.size (omega arith), ← t, le-leb total numbers h, lt-leb k.size bytes b)
+      admit_bytes h b = rw (d.read, size_is, le-leb 1 k.size (omega arith), ← t.old, le-leb totals.old numbers h, lt-leb k.size bytes b)
 
-      pub admit_all : total ≤ numbers → k.size ≤ bytes → answer (record { size = k.size; numbers = total }) ≡ admitted_needs s numbers bytes cell
+      pub admit_all : totals.old ≤ numbers → k.size ≤ bytes → answer (record { size = k.size; totals = totals }) ≡ admitted_needs s numbers bytes cell
       unfolding admitted_needs admitted
-      admit_all h b = rw (d.read, size_is, le-leb 1 k.size (omega arith), ← t, le-leb total numbers h, le-leb k.size bytes b, ← t)
+      admit_all h b = rw (d.read, size_is, le-leb 1 k.size (omega arith), ← t.old, le-leb totals.old numbers h, le-leb k.size bytes b, t.new, t.old)
 
   -- ---- what they tell
 
@@ -81,34 +82,33 @@ module _ (s : ℕ) (cell : List ℕ) (numbers bytes : ℕ) where
   not_admitted e = with_answer_refused (needs_of s) (admitted s room cell) (sym e)
 
   -- the cell, and what is known of it
-  pub record Admission (needs : ValueCounts) : Type 0 where
+  pub record Admission (needs : Needs) : Type 0 where
     pub is : admitted s room cell ≡ answer (cell_of cell)
     pub needs_are : needs_of s (cell_of cell) ≡ needs
     pub long : cell_header ≤ length cell
-    pub total_needs : TotalNeeds s needs
-    pub few : needs.numbers ≤ max_size s + 4
-    pub numbers_room : needs.numbers ≤ numbers
+    pub some : 1 ≤ needs.size
+    pub totals : IsTotals s needs.size needs.totals
+    pub few : needs.totals.old ≤ max_size s + 4
+    pub numbers_room : needs.totals.old ≤ numbers
     pub bytes_room : needs.size ≤ bytes
 
-  pub admission : {needs : ValueCounts} → IsPageSize s → answer needs ≡ admitted_needs s numbers bytes cell → Admission needs
+  pub admission : {needs : Needs} → IsPageSize s → answer needs ≡ admitted_needs s numbers bytes cell → Admission needs
   unfolding admitted_needs
   admission {needs} page e =
       let w = with_answer_answer (λ c. answer (needs_of s c)) (admitted s room cell) (sym e) in
       let a = admitted_decoded s room cell w.1 in
       let d = decoded s cell a.0 in
       let needs_are : needs_of s (cell_of cell) ≡ needs = ap (needs_of s) (sym d.1) ∙ unanswer w.2 in
-      let size_is : (cell_of cell).size ≡ needs.size = ap (λ (n : ValueCounts). n.size) needs_are in
-      let total_is : old_total s (cell_of cell).size ≡ needs.numbers = ap (λ (n : ValueCounts). n.numbers) needs_are in
+      let size_is : (cell_of cell).size ≡ needs.size = ap (λ (n : Needs). n.size) needs_are in
+      let new_is : new_total s (cell_of cell).size ≡ needs.totals.new = ap (λ (n : Needs). n.totals.new) needs_are in
+      let total_is : old_total s (cell_of cell).size ≡ needs.totals.old = ap (λ (n : Needs). n.totals.old) needs_are in
       let both = and-true (numbers_room s numbers (cell_of cell)) (bytes_room bytes (cell_of cell)) (ap room (sym d.1) ∙ a.1) in
       record {
         is = w.1 ∙ ap answer d.1;
         needs_are = needs_are;
         long = omega (arith, d.0.long);
-        total_needs = record {
-          some = omega (arith, (admitted_some s room cell w.1), ap (λ (c : Cell). c.size) (sym d.1), size_is);
-          few = omega (arith, d.0.few, size_is);
-          old = sym total_is ∙ ap (old_total s) size_is;
-        };
+        some = omega (arith, (admitted_some s room cell w.1), ap (λ (c : Cell). c.size) (sym d.1), size_is);
+        totals = record { new = sym new_is ∙ ap (new_total s) size_is; old = sym total_is ∙ ap (old_total s) size_is };
         few = omega (arith, total_few (cell_of cell).size page d.0.few, total_is);
         numbers_room = omega (arith, leb-true (old_total s (cell_of cell).size) numbers both.0, total_is);
         bytes_room = omega (arith, leb-true (cell_of cell).size bytes both.1, size_is);

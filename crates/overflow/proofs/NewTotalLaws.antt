@@ -1,20 +1,23 @@
 -- The new total is the old one, or one page less where these hold the value.
 -- A count that holds it is least if the one below does not: with a page more there is always room for its own number.
-use Prim.Native.Nat.{ℕ, zero, suc, ◌+◌, ◌*◌, ◌-◌, ◌<◌, ◌≤◌}
+use Prim.Native.Nat.{ℕ, zero, suc, ◌+◌, ◌*◌, ◌-◌, ◌/◌, ◌<◌, ◌≤◌}
 use mathlib.Core.Path.{◌≡◌, refl, sym, ◌∙◌, ap, subst, subst⁻¹}
 use mathlib.Core.Logic.{⊎_elim}
 use mathlib.Core.Bool.{Bool, true, false, cond}
 use native.Mathlib.Decide.{dec_lt}
-use native.Mathlib.Nat.{mul-suc, mul-zero, mul-le-mul_right}
+use native.Mathlib.Nat.{lt-div-mul-add, div-mul-le_self, mul-add, mul-suc, mul-zero, mul-le-mul_right}
 use native.Mathlib.Omega.{arith}
 use borrow.Author.Tests.{le-leb, lt-leb, leb-true, leb-false}
 use Rattle.laws.proofs.Tests.{cond_cases}
 use Rattle.page.specs.PageSize.{IsPageSize}
 use Rattle.page.proofs.PageSizeLaws.{page_least}
-use Rattle.overflow.specs.Totals.{max_size, cell_numbers, body, holds, first_from, new_total, old_total, IsTotal}
-use Rattle.overflow.specs.Steps.{Room}
+use Rattle.overflow.specs.Totals.{max_size, cell_numbers, body, holds, first_from, new_total, raw_pages, old_total, total_by, IsTotal}
+use Rattle.overflow.specs.Steps.{IsTotals, Room, total_of_rule}
+use Rattle.overflow.specs.declared.total.Totals.{Totals}
+use Rattle.overflow.specs.declared.total.TotalRule.{TotalRule}
+use Rattle.overflow.specs.declared.total.TotalRule.TheVariants.{New, Old}
 use Rattle.overflow.specs.Theorems.{Least, OneLess}
-use Rattle.overflow.proofs.TotalsLaws.{max_size_lem, total_enough, total_tight, total_small}
+use Rattle.overflow.proofs.TotalsLaws.{max_size_lem, pages_room, raw_covers, raw_tight, total_enough, total_tight, total_small, total_few}
 
 -- the first number that passes a test is the one that does and below which none does
 pub first_is : (test : ℕ → Bool) (c i left : ℕ) → i ≤ c → c ≤ i + left → test c ≡ true → ((k : ℕ) → i ≤ k → k < c → test k ≡ false) → first_from test i left ≡ c
@@ -113,14 +116,6 @@ module _ {s : ℕ} (size : ℕ) (page : IsPageSize s) where
 pub one_less : {s : ℕ} → IsPageSize s → OneLess s
 one_less page size some = one_less_of size page some (old_total _ size) (total_enough size page) (total_tight size page)
 
--- by the test that the code makes
-module _ {s size : ℕ} (page : IsPageSize s) (some : 1 ≤ size) where
-  pub new_is_less : holds s size (old_total s size - 1) ≡ true → old_total s size - 1 ≡ new_total s size
-  new_is_less e = rw (one_less page size some, e)
-
-  pub new_is_old : holds s size (old_total s size - 1) ≡ false → old_total s size ≡ new_total s size
-  new_is_old e = rw (one_less page size some, e)
-
 -- so it is never more, and at most one less
 pub new_within : {s : ℕ} → IsPageSize s → (size : ℕ) → 1 ≤ size → new_total s size ≤ old_total s size
 new_within {s} page size some =
@@ -182,3 +177,84 @@ new_room {s} {size} total e page some few =
       enough = new_enough size page some;
       small = omega (arith, new_tight size page some, new_within page size some, total_small size page, page.limit, max_size_lem s);
     })
+
+-- ---- both totals in the numbers of the code
+
+-- k more pages for what is lacking, rounded up: enough, and with one less there would not be
+abbrev more : ℕ → ℕ → ℕ → ℕ
+more b r size = (size + 4 * (r - 15) - b * r + (b - 5)) / (b - 4)
+
+module _ (b r size : ℕ) (large : 8 < b) (past : 15 < r) (short : b * r < size + 4 * (r - 15)) where
+  enough_for : size + 4 * (r - 15) ≤ b * r + more b r size * (b - 4)
+  enough_for = omega (arith, lt-div-mul-add {a = size + 4 * (r - 15) - b * r + (b - 5)} {b = b - 4} (omega arith))
+
+  more_enough : size + 4 * (r + more b r size - 15) ≤ b * (r + more b r size)
+  more_enough = rw mul-add (omega (arith, pages_room b (more b r size) large, enough_for))
+
+  more_least : (k : ℕ) → more b r size ≡ suc k → b * (r + k) < size + 4 * (r + k - 15)
+  more_least k e =
+      let most = div-mul-le_self (size + 4 * (r - 15) - b * r + (b - 5)) (b - 4) in
+      let product : more b r size * (b - 4) ≡ k * (b - 4) + (b - 4) = ap (λ (n : ℕ). n * (b - 4)) e ∙ omega arith in
+      rw mul-add (omega (arith, pages_room b k large, most, product))
+
+module _ {s size raw : ℕ} (e : raw ≡ raw_pages s size) (page : IsPageSize s) (some : 1 ≤ size) (few : size ≤ max_size s) where
+  -- what is told of them
+  pub record Told (totals : Totals) : Type 0 where
+    pub are : IsTotals s size totals
+    pub room : Room s size totals.new
+
+  told : (totals : Totals) → IsTotals s size totals → Told totals
+  told totals are = record { are = are; room = new_room totals.new are.new page some few }
+
+  covers : size ≤ body s * raw
+  covers = rw e (raw_covers size page)
+
+  tight : body s * raw < size + body s
+  tight = rw e (raw_tight size page)
+
+  -- where the pages that the bytes take have room for the numbers, these are the new total
+  new_raw : size + 4 * (raw - cell_numbers) ≤ body s * raw → raw ≡ new_total s size
+  new_raw room = by_count raw refl
+    where
+      by_count : (r : ℕ) → raw ≡ r → raw ≡ new_total s size
+      by_count zero z = absurd (omega (arith, covers, ap (λ (k : ℕ). body s * k) z, mul-zero (body s)))
+      by_count (suc c) z =
+          let pages = ap (λ (k : ℕ). body s * k) z ∙ mul-suc (body s) c in
+          z ∙ sym (least_is size page some c (rw z at room) (holds_not size page c (omega (arith, tight, pages))))
+
+  pub told_few : raw ≤ cell_numbers → Told (record { new = raw; old = raw })
+  unfolding old_total
+  told_few h = told (record { new = raw; old = raw }) (record { new = new_raw (omega (arith, covers)); old = rw (← e, le-leb raw cell_numbers h) })
+
+  module _ (past : cell_numbers < raw) where
+    pub told_fits : raw - cell_numbers ≤ (body s * raw - size) / 4 → Told (record { new = raw; old = raw })
+    unfolding old_total
+    told_fits h =
+        told (record { new = raw; old = raw })
+        (record { new = new_raw (omega (arith, covers)); old = rw (← e, lt-leb raw cell_numbers past, le-leb (raw - cell_numbers) ((body s * raw - size) / 4) h) })
+
+    pub told_more : (body s * raw - size) / 4 < raw - cell_numbers
+        → let m = size + 4 * (raw - cell_numbers) - body s * raw in Told (record { new = raw + (m + (body s - 5)) / (body s - 4); old = raw + (m + (body s - 3)) / (body s - 4) })
+    unfolding old_total
+    told_more h = told _ (record { new = by_count (more (body s) raw size) refl; old = rw (← e, lt-leb raw cell_numbers past, lt-leb (raw - cell_numbers) ((body s * raw - size) / 4) h) })
+      where
+        large : 8 < body s
+        large = omega (arith, page_least page)
+
+        short : body s * raw < size + 4 * (raw - cell_numbers)
+        short = omega (arith, covers, h)
+
+        by_count : (k : ℕ) → more (body s) raw size ≡ k → raw + more (body s) raw size ≡ new_total s size
+        by_count zero z = absurd (omega (arith, short, enough_for (body s) raw size large past short, ap (λ (n : ℕ). n * (body s - 4)) z))
+        by_count (suc k) z =
+            let one : raw + more (body s) raw size ≡ suc (raw + k) = omega (arith, z) in
+            rw one (sym (least_is size page some (raw + k) (rw one at (more_enough (body s) raw size large past short)) (holds_not size page (raw + k) (more_least (body s) raw size large past short k z))))
+
+-- the total of a rule is not much more than the limit
+pub rule_few : {s size : ℕ} (rule : TotalRule) → IsPageSize s → 1 ≤ size → size ≤ max_size s → total_by rule s size ≤ max_size s + 4
+rule_few {s} {size} New page some few = omega (arith, new_within page size some, total_few size page few)
+rule_few {s} {size} Old page some few = total_few size page few
+
+pub rule_total : {s size : ℕ} (rule : TotalRule) {totals : Totals} → IsTotals s size totals → total_of_rule rule totals ≡ total_by rule s size
+rule_total New are = are.new
+rule_total Old are = are.old

@@ -21,7 +21,7 @@ use Rattle.overflow.specs.Totals.{max_size, body, new_total, old_total}
 use Rattle.overflow.specs.Cells.{cell_header, cell_count, cell_of}
 use Rattle.overflow.specs.Reading.{in_store, Found, in_cell, Walked, ended, stopped, found_by, walk, first_walk, table_after, value_total, read_pages, read_value_into, delete_pages, delete_into}
 use Rattle.overflow.specs.Steps.{admitted_needs, walk_table, walk_counts, SmallCounts, walk_into, first_walk_into, counted_total, value_bytes_of, Copyable}
-use Rattle.overflow.specs.declared.cell.ValueCounts.{ValueCounts}
+use Rattle.overflow.specs.declared.admit.Needs.{Needs}
 use Rattle.overflow.specs.declared.walk.WalkCounts.{WalkCounts}
 use Rattle.overflow.proofs.NewTotalLaws.{new_within}
 use Rattle.overflow.proofs.ParseLaws.{store_paged}
@@ -90,46 +90,49 @@ front l xs n few long =
 -- ---- after admission
 
 -- the walks fill the first places of the number table, which are lent to them and put back before the others
-module _ (s : ℕ) (cell store numbers : List ℕ) {bytes : ℕ} {needs : ValueCounts} (a : Admission s cell (length numbers) bytes needs) where
+module _ (s : ℕ) (cell store numbers : List ℕ) {bytes : ℕ} {needs : Needs} (a : Admission s cell (length numbers) bytes needs) where
   -- the first walk, and what is lent to it
   abbrev first : Walked
   first = first_walk s (in_store s store) (cell_of cell)
 
   abbrev part : List ℕ
-  part = take needs.numbers numbers
+  part = take needs.totals.old numbers
 
   abbrev whole : List ℕ → List ℕ
-  whole left = left ++ drop needs.numbers numbers
+  whole left = left ++ drop needs.totals.old numbers
 
   -- a reading walk over so many pages
   abbrev reads : ℕ → Walked
   reads total = walk s (in_store s store) false total 0 (in_cell (cell_of cell))
 
   size_is : (cell_of cell).size ≡ needs.size
-  size_is = ap (λ (n : ValueCounts). n.size) a.needs_are
+  size_is = ap (λ (n : Needs). n.size) a.needs_are
 
-  total_is : old_total s (cell_of cell).size ≡ needs.numbers
-  total_is = ap (λ (n : ValueCounts). n.numbers) a.needs_are
+  total_is : old_total s (cell_of cell).size ≡ needs.totals.old
+  total_is = ap (λ (n : Needs). n.totals.old) a.needs_are
 
-  pub part_long : length part ≡ needs.numbers
-  part_long = length-take-le needs.numbers numbers a.numbers_room
+  new_is : new_total s (cell_of cell).size ≡ needs.totals.new
+  new_is = ap (λ (n : Needs). n.totals.new) a.needs_are
+
+  pub part_long : length part ≡ needs.totals.old
+  part_long = length-take-le needs.totals.old numbers a.numbers_room
 
   -- the first walk by its contract
   module _ {o : Outcome WalkCounts} {left : List ℕ} (e : effect o left ≡ first_walk_into s store cell part) where
-    first_is : effect o left ≡ effect (walk_counts first) (table_after needs.numbers part first)
+    first_is : effect o left ≡ effect (walk_counts first) (table_after needs.totals.old part first)
     unfolding first_walk_into
     first_is =
-        let same : walk s (in_store s store) true needs.numbers 0 (in_cell (cell_of cell)) ≡ first = ap (λ (n : ℕ). walk s (in_store s store) true n 0 (in_cell (cell_of cell))) (sym total_is) in
-        e ∙ rw part_long (ap (λ (w : Walked). effect (walk_counts w) (table_after needs.numbers part w)) same)
+        let same : walk s (in_store s store) true needs.totals.old 0 (in_cell (cell_of cell)) ≡ first = ap (λ (n : ℕ). walk s (in_store s store) true n 0 (in_cell (cell_of cell))) (sym total_is) in
+        e ∙ rw part_long (ap (λ (w : Walked). effect (walk_counts w) (table_after needs.totals.old part w)) same)
 
     counts_are : o ≡ walk_counts first
     counts_are = ap (λ (x : Effect WalkCounts (List ℕ)). x.outcome) first_is
 
-    whole_is : whole left ≡ table_after needs.numbers numbers first
+    whole_is : whole left ≡ table_after needs.totals.old numbers first
     whole_is =
-        let xs = take needs.numbers (found_by first).numbers in
+        let xs = take needs.totals.old (found_by first).numbers in
         ap (λ (x : Effect WalkCounts (List ℕ)). whole x.lent) first_is
-        ∙ part-sets numbers 0 needs.numbers xs (omega (arith, a.numbers_room)) (omega (arith, length-take needs.numbers (found_by first).numbers))
+        ∙ part-sets numbers 0 needs.totals.old xs (omega (arith, a.numbers_room)) (omega (arith, length-take needs.totals.old (found_by first).numbers))
 
   -- what the definitions say of it
   module _ (value : List ℕ) (all : bytes ≡ length value) where
@@ -161,25 +164,25 @@ module _ (s : ℕ) (cell store numbers : List ℕ) {bytes : ℕ} {needs : ValueC
   -- ---- the first walk has ended
 
   module _ (page : IsPageSize s) {k : WalkCounts} {left : List ℕ} (e : effect (answer k) left ≡ first_walk_into s store cell part)
-      {total : ℕ} (t : total ≡ counted_total s needs.size k) where
+      {total : ℕ} (t : total ≡ counted_total needs k) where
     w : EndedWith first k
     w = ended_with first (counts_are e)
 
     -- the total is the value's
     decided : value_total s (cell_of cell).size first ≡ total
     unfolding value_total counted_total
-    decided = rw (t, w.ended_is, w.numbers_are, w.bytes_are, size_is)
+    decided = rw (t, w.ended_is, w.numbers_are, w.bytes_are, new_is, total_is)
 
-    new_few : new_total s (cell_of cell).size ≤ needs.numbers
-    new_few = omega (arith, new_within page needs.size a.total_needs.some, ap (new_total s) size_is, a.total_needs.old)
+    new_few : new_total s (cell_of cell).size ≤ needs.totals.old
+    new_few = omega (arith, new_within page needs.size a.some, ap (new_total s) size_is, a.totals.old)
 
-    pub total_few : total ≤ needs.numbers
-    total_few = rw decided at (by_total s (in_store s store) (cell_of cell) w.ended_is (λ n. n ≤ needs.numbers) (omega (arith, total_is)) (λ _. new_few))
+    pub total_few : total ≤ needs.totals.old
+    total_few = rw decided at (by_total s (in_store s store) (cell_of cell) w.ended_is (λ n. n ≤ needs.totals.old) (omega (arith, total_is)) (λ _. new_few))
 
     -- there is room for so many
     pub total_room : total ≤ length (whole left)
     total_room =
-        let long = ap length (whole_is e) ∙ length-sets numbers 0 (take needs.numbers (found_by first).numbers) in
+        let long = ap length (whole_is e) ∙ length-sets numbers 0 (take needs.totals.old (found_by first).numbers) in
         omega (arith, long, total_few, a.numbers_room)
 
     -- and the walk has come no further
@@ -192,8 +195,8 @@ module _ (s : ℕ) (cell store numbers : List ℕ) {bytes : ℕ} {needs : ValueC
         whole_is e
         ∙ rw w.ended_is
         (rw decided at
-        (by_total s (in_store s store) (cell_of cell) w.ended_is (λ n. sets numbers 0 (take needs.numbers w.found.numbers) ≡ sets numbers 0 (take n w.found.numbers)) (rw total_is)
-        (λ h. ap (sets numbers 0) (take_all needs.numbers w.found.numbers (omega (arith, h, new_few)) ∙ sym (take_all (new_total s (cell_of cell).size) w.found.numbers (omega (arith, h)))))))
+        (by_total s (in_store s store) (cell_of cell) w.ended_is (λ n. sets numbers 0 (take needs.totals.old w.found.numbers) ≡ sets numbers 0 (take n w.found.numbers)) (rw total_is)
+        (λ h. ap (sets numbers 0) (take_all needs.totals.old w.found.numbers (omega (arith, h, new_few)) ∙ sym (take_all (new_total s (cell_of cell).size) w.found.numbers (omega (arith, h)))))))
 
     -- so far from their limits are its counts, for a cell that is a slice
     pub small : length cell ≤ 2 ^ 63 → SmallCounts k

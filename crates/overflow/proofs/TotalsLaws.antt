@@ -30,21 +30,22 @@ few_pages b (suc u) size large tight =
     let e : b * suc u ≡ b * u + b = mul-suc b u in
     omega (arith, mul-le-mul_right u large)
 
+-- the bodies of k pages are what these have beside their own numbers, and the numbers
+pub pages_room : (b k : ℕ) → 8 < b → b * k ≡ k * (b - 4) + 4 * k
+pages_room b k large = let e : b ≡ b - 4 + 4 = omega arith in subst (λ (z : ℕ). z * k ≡ k * (b - 4) + 4 * k) (sym e) (omega arith)
+
 -- k more pages for what is lacking: enough, and not one too many. A page more has room for b bytes less the 4 of its number
 module _ (b r size : ℕ) (large : 8 < b) (past : 15 < r) (short : b * r < size + 4 * (r - 15)) where
   extra : ℕ
   extra = (size + 4 * (r - 15) - b * r + (b - 3)) / (b - 4)
 
-  room : b * extra ≡ extra * (b - 4) + 4 * extra
-  room = let e : b ≡ b - 4 + 4 = omega arith in subst (λ (z : ℕ). z * extra ≡ extra * (b - 4) + 4 * extra) (sym e) (omega arith)
-
   extra_enough : size + 4 * (r + extra - 15) ≤ b * (r + extra)
   unfolding extra
-  extra_enough = rw mul-add (omega (arith, room, lt-div-mul-add {a = size + 4 * (r - 15) - b * r + (b - 3)} {b = b - 4} (omega arith)))
+  extra_enough = rw mul-add (omega (arith, pages_room b extra large, lt-div-mul-add {a = size + 4 * (r - 15) - b * r + (b - 3)} {b = b - 4} (omega arith)))
 
   extra_tight : b * (r + extra) < size + 4 * (r + extra - 15) + b
   unfolding extra
-  extra_tight = rw mul-add (omega (arith, room, div-mul-le_self (size + 4 * (r - 15) - b * r + (b - 3)) (b - 4)))
+  extra_tight = rw mul-add (omega (arith, pages_room b extra large, div-mul-le_self (size + 4 * (r - 15) - b * r + (b - 3)) (b - 4)))
 
 module _ {s : ℕ} (size : ℕ) (page : IsPageSize s) where
   -- the raw pages hold the bytes

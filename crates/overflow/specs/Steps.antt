@@ -6,33 +6,40 @@ use Rattle.refusal.specs.Effect.{Effect, effect, leaves}
 use Rattle.refusal.specs.Refusals.{outcome}
 use Rattle.refusal.specs.declared.Refusal.{Refusal}
 use Rattle.page.specs.Pages.{page_count, page_at}
-use Rattle.overflow.specs.Totals.{max_size, cell_numbers, body, old_total, new_total}
+use Rattle.overflow.specs.Totals.{cell_numbers, body, old_total, new_total}
 use Rattle.overflow.specs.ValuePages.{value_numbers, value_bytes, numbers_within, bytes_within}
 use Rattle.overflow.specs.Cells.{Cell, cell_of}
 use Rattle.overflow.specs.Reading.{Source, in_store, parse_page, in_cell, Walked, ended, stopped, walk, table_after, admitted, numbers_room, bytes_room}
 use Rattle.overflow.specs.declared.page_ref.ValuePageRef.{ValuePageRef}
-use Rattle.overflow.specs.declared.cell.ValueCounts.{ValueCounts}
+use Rattle.overflow.specs.declared.admit.Needs.{Needs}
+use Rattle.overflow.specs.declared.total.Totals.{Totals}
+use Rattle.overflow.specs.declared.total.TotalRule.{TotalRule}
+use Rattle.overflow.specs.declared.total.TotalRule.TheVariants.{New, Old}
 use Rattle.overflow.specs.declared.walk.WalkCounts.{WalkCounts}
 use Rattle.overflow.specs.declared.walk.Until.{Until}
 use Rattle.overflow.specs.declared.walk.Until.TheVariants.{FirstBytes, End}
 
 -- ---- admission
 
--- what a cell's value needs, with the numbers that it may have, where it is admitted with room for so many numbers and bytes
-abbrev pub needs_of : ℕ → Cell → ValueCounts
-needs_of s c = record { size = c.size; numbers = old_total s c.size }
+-- what a cell's value needs, where it is admitted with room for so many numbers and bytes
+abbrev pub needs_of : ℕ → Cell → Needs
+needs_of s c = record { size = c.size; totals = record { new = new_total s c.size; old = old_total s c.size } }
 
-unfoldable pub admitted_needs : ℕ → ℕ → ℕ → List ℕ → Outcome ValueCounts
+unfoldable pub admitted_needs : ℕ → ℕ → ℕ → List ℕ → Outcome Needs
 admitted_needs s numbers bytes b = with_answer (λ c. answer (needs_of s c)) (admitted s (λ c. numbers_room s numbers c && bytes_room bytes c) b)
 
-abbrev pub admitted_outcome : Result ValueCounts Refusal → Outcome ValueCounts
+abbrev pub admitted_outcome : Result Needs Refusal → Outcome Needs
 admitted_outcome = outcome (λ n. n)
 
--- a size that a value can have, with its old total
-pub record TotalNeeds (s : ℕ) (needs : ValueCounts) : Type 0 where
-  pub some : 1 ≤ needs.size
-  pub few : needs.size ≤ max_size s
-  pub old : needs.numbers ≡ old_total s needs.size
+-- the two totals of a size
+pub record IsTotals (s size : ℕ) (totals : Totals) : Type 0 where
+  pub new : totals.new ≡ new_total s size
+  pub old : totals.old ≡ old_total s size
+
+-- the one that a rule takes
+abbrev pub total_of_rule : TotalRule → Totals → ℕ
+total_of_rule New totals = totals.new
+total_of_rule Old totals = totals.old
 
 -- the bodies of so many pages hold a value and its numbers, and are far from the limit of their type
 pub record Room (s size total : ℕ) : Type 0 where
@@ -103,8 +110,8 @@ first_walk_into s store cell table =
     effect (walk_counts w) (table_after (length table) table w)
 
 -- the total that it decides, by its counts
-unfoldable pub counted_total : ℕ → ℕ → WalkCounts → ℕ
-counted_total s size f = cond (leb 1 f.size && eqb f.numbers (new_total s size)) (new_total s size) (old_total s size)
+unfoldable pub counted_total : Needs → WalkCounts → ℕ
+counted_total needs f = cond (leb 1 f.size && eqb f.numbers needs.totals.new) needs.totals.new needs.totals.old
 
 -- ---- copying
 

@@ -7,7 +7,9 @@ ghost use Rattle.overflow.specs.Totals.{max_size, total_by};
 ghost use Rattle.overflow.specs.Layout.{numbers_before, bytes_before};
 ghost use Rattle.overflow.specs.ValuePages.{value_page, chunk_into};
 
-use crate::total::{MAX_OVERFLOW_CELL_NODE_POINTERS, TotalRule, max_overflow_value_size};
+use crate::total::{
+    MAX_OVERFLOW_CELL_NODE_POINTERS, TotalRule, max_overflow_value_size, total_needed_pages,
+};
 use crate::value_page::encode_value_page;
 use page::size::PageSize;
 use refusal::Refusal;
@@ -28,7 +30,8 @@ pub fn chunk(
     if size == 0 || max_overflow_value_size(page_size) < size {
         return Err(Refusal::Size);
     }
-    let total = rule.total(page_size, size);
+    let totals = total_needed_pages(page_size, size);
+    let total = rule.of(totals);
     if numbers.len() != total || total <= index {
         return Err(Refusal::Index);
     }

@@ -4,7 +4,7 @@ ghost use Rattle.refusal.specs.Effect.{effect};
 ghost use Rattle.overflow.specs.Reading.{delete_into, deleted_outcome};
 
 use crate::admit::admit;
-use crate::total::{counted_total, max_overflow_value_size};
+use crate::total::max_overflow_value_size;
 use crate::walk::first_walk;
 use page::store::Store;
 use refusal::Refusal;
@@ -16,15 +16,10 @@ use refusal::Refusal;
 pub fn delete(store: &Store, cell: &[u8], numbers: &mut [u32]) -> Result<usize, Refusal>
     ensures { effect (deleted_outcome result) numbers.new ≡ delete_into store.now.page_size cell.now store.now.bytes numbers.old }
 {
-    let page_size = store.page_size();
-    let needs = admit(
-        store,
-        cell,
-        numbers.len(),
-        max_overflow_value_size(page_size),
-    )?;
-    let found = first_walk(store, cell, &mut numbers[..needs.numbers])?;
-    let total = counted_total(page_size, needs, found);
+    let largest = max_overflow_value_size(store.page_size());
+    let needs = admit(store, cell, numbers.len(), largest)?;
+    let found = first_walk(store, cell, &mut numbers[..needs.totals.old])?;
+    let total = needs.counted_total(found);
     if found.numbers != total {
         return Err(Refusal::Numbers);
     }

@@ -9,7 +9,6 @@ ghost use Rattle.overflow.specs.Steps.{value_bytes_of, Copyable};
 use crate::admit::admit;
 use crate::cell::ValueCounts;
 use crate::page_ref::ValuePageRef;
-use crate::total::counted_total;
 use crate::walk::{Until, first_walk, walk};
 use page::copy::copy;
 use page::store::Store;
@@ -27,8 +26,8 @@ pub fn read(
     ensures { effect (read_outcome result) (read_lent after numbers value) ≡ read_value_into store.now.page_size cell.now store.now.bytes (read_lent before numbers value) }
 {
     let needs = admit(store, cell, numbers.len(), value.len())?;
-    let found = first_walk(store, cell, &mut numbers[..needs.numbers])?;
-    let total = counted_total(store.page_size(), needs, found);
+    let found = first_walk(store, cell, &mut numbers[..needs.totals.old])?;
+    let total = needs.counted_total(found);
     let table = &mut numbers[..total];
     let found = walk(store, found, Until::End, table)?;
     if found.numbers != total {
@@ -45,6 +44,7 @@ pub fn read(
 }
 
 // Copies the value bytes of the pages of these numbers, one page after another.
+#[inline(always)]
 fn copy_value(store: &Store, numbers: &[u32], value: &mut [u8])
     requires { Copyable store.now.page_size store.now.bytes numbers.now value.old }
     ensures { value.new ≡ sets value.old 0 (value_bytes_of store.now.page_size store.now.bytes numbers.now) }

@@ -45,6 +45,7 @@ impl Until {
 
 // Walks from a cell to the first page that has value bytes, over one page for each place of the table at most, and fills the table with the
 // first numbers found.
+#[inline(always)]
 pub(crate) fn first_walk(
     store: &Store,
     cell: &[u8],

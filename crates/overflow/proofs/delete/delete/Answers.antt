@@ -23,15 +23,12 @@ first_walk-requires-clause-few c =
 pub returns-in_err-found : goal.returns-in_err-found
 returns-in_err-found c =
     let p = err_from_is_err_and c.from_residual-in_err-found.result c.from_residual-in_err-found.ensures.1 in
-    rw (p.1, p.2) (delete_stopped _ _ _ _ (admission _ _ _ _ c.in_ok-needs.ensures.page_size c.in_ok-needs.ensures.needs) (rw c.page_size-page_size.ensures at c.max_overflow_value_size.ensures) c.in_err-found.ensures)
-
-pub counted_total-total-requires : goal.counted_total-total-requires
-counted_total-total-requires c = rw c.page_size-page_size.ensures (admission _ _ _ _ c.in_ok-needs.ensures.page_size c.in_ok-needs.ensures.needs).total_needs
+    rw (p.1, p.2) (delete_stopped _ _ _ _ (admission _ _ _ _ c.in_ok-needs.ensures.page_size c.in_ok-needs.ensures.needs) (rw c.page_size.ensures at c.max_overflow_value_size-largest.ensures) c.in_err-found.ensures)
 
 pub returns-then-found-total : goal.returns-then-found-total
 returns-then-found-total c =
-    delete_numbers _ _ _ _ (admission _ _ _ _ c.in_ok-needs.ensures.page_size c.in_ok-needs.ensures.needs) c.in_ok-needs.ensures.page_size c.in_ok-found.ensures (rw c.page_size-page_size.ensures at c.counted_total-total.ensures) (rw c.page_size-page_size.ensures at c.max_overflow_value_size.ensures) c.if-found-total.true
+    delete_numbers _ _ _ _ (admission _ _ _ _ c.in_ok-needs.ensures.page_size c.in_ok-needs.ensures.needs) c.in_ok-needs.ensures.page_size c.in_ok-found.ensures c.counted_total-total.ensures (rw c.page_size.ensures at c.max_overflow_value_size-largest.ensures) c.if-found-total.true
 
 pub returns : goal.returns
 returns c =
-    delete_all _ _ _ _ (admission _ _ _ _ c.in_ok-needs.ensures.page_size c.in_ok-needs.ensures.needs) c.in_ok-needs.ensures.page_size c.in_ok-found.ensures (rw c.page_size-page_size.ensures at c.counted_total-total.ensures) (rw c.page_size-page_size.ensures at c.max_overflow_value_size.ensures) c.if-found-total.false
+    delete_all _ _ _ _ (admission _ _ _ _ c.in_ok-needs.ensures.page_size c.in_ok-needs.ensures.needs) c.in_ok-needs.ensures.page_size c.in_ok-found.ensures c.counted_total-total.ensures (rw c.page_size.ensures at c.max_overflow_value_size-largest.ensures) c.if-found-total.false

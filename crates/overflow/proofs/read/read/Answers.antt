@@ -25,36 +25,33 @@ returns-in_err-found c =
     let p = err_from_is_err_and c.from_residual-in_err-found.result c.from_residual-in_err-found.ensures.1 in
     rw (p.1, p.2) (read_first_stopped _ _ _ _ (admission _ _ _ _ c.in_ok-needs.ensures.page_size c.in_ok-needs.ensures.needs) _ refl c.in_err-found.ensures)
 
-pub counted_total-total-requires : goal.counted_total-total-requires
-counted_total-total-requires c = rw c.page_size.ensures (admission _ _ _ _ c.in_ok-needs.ensures.page_size c.in_ok-needs.ensures.needs).total_needs
-
 pub slice_bounds-table-end : goal.slice_bounds-table-end
-slice_bounds-table-end c = total_room _ _ _ _ (admission _ _ _ _ c.in_ok-needs.ensures.page_size c.in_ok-needs.ensures.needs) c.in_ok-needs.ensures.page_size c.in_ok-found.ensures (rw c.page_size.ensures at c.counted_total-total.ensures)
+slice_bounds-table-end c = total_room _ _ _ _ (admission _ _ _ _ c.in_ok-needs.ensures.page_size c.in_ok-needs.ensures.needs) c.in_ok-needs.ensures.page_size c.in_ok-found.ensures c.counted_total-total.ensures
 
 pub slice_bounds-table-end-2 : goal.slice_bounds-table-end-2
-slice_bounds-table-end-2 c = sym (part_2_long _ _ _ _ (admission _ _ _ _ c.in_ok-needs.ensures.page_size c.in_ok-needs.ensures.needs) c.in_ok-needs.ensures.page_size c.in_ok-found.ensures (rw c.page_size.ensures at c.counted_total-total.ensures))
+slice_bounds-table-end-2 c = sym (part_2_long _ _ _ _ (admission _ _ _ _ c.in_ok-needs.ensures.page_size c.in_ok-needs.ensures.needs) c.in_ok-needs.ensures.page_size c.in_ok-found.ensures c.counted_total-total.ensures)
 
 pub walk-requires-clause-small : goal.walk-requires-clause-small
-walk-requires-clause-small c = small _ _ _ _ (admission _ _ _ _ c.in_ok-needs.ensures.page_size c.in_ok-needs.ensures.needs) c.in_ok-needs.ensures.page_size c.in_ok-found.ensures (rw c.page_size.ensures at c.counted_total-total.ensures) (omega (arith, c.well_formed))
+walk-requires-clause-small c = small _ _ _ _ (admission _ _ _ _ c.in_ok-needs.ensures.page_size c.in_ok-needs.ensures.needs) c.in_ok-needs.ensures.page_size c.in_ok-found.ensures c.counted_total-total.ensures (omega (arith, c.well_formed))
 
 pub walk-requires-clause-few : goal.walk-requires-clause-few
 walk-requires-clause-few c =
     let a = (admission _ _ _ _ c.in_ok-needs.ensures.page_size c.in_ok-needs.ensures.needs) in
-    omega (arith, a.few, total_few _ _ _ _ (admission _ _ _ _ c.in_ok-needs.ensures.page_size c.in_ok-needs.ensures.needs) c.in_ok-needs.ensures.page_size c.in_ok-found.ensures (rw c.page_size.ensures at c.counted_total-total.ensures), part_2_long _ _ _ _ (admission _ _ _ _ c.in_ok-needs.ensures.page_size c.in_ok-needs.ensures.needs) c.in_ok-needs.ensures.page_size c.in_ok-found.ensures (rw c.page_size.ensures at c.counted_total-total.ensures))
+    omega (arith, a.few, total_few _ _ _ _ (admission _ _ _ _ c.in_ok-needs.ensures.page_size c.in_ok-needs.ensures.needs) c.in_ok-needs.ensures.page_size c.in_ok-found.ensures c.counted_total-total.ensures, part_2_long _ _ _ _ (admission _ _ _ _ c.in_ok-needs.ensures.page_size c.in_ok-needs.ensures.needs) c.in_ok-needs.ensures.page_size c.in_ok-found.ensures c.counted_total-total.ensures)
 
 pub returns-in_err-found-2 : goal.returns-in_err-found-2
 returns-in_err-found-2 c =
     let p = err_from_is_err_and c.from_residual-in_err-found-2.result c.from_residual-in_err-found-2.ensures.1 in
-    rw (p.1, p.2) (read_stopped _ _ _ _ (admission _ _ _ _ c.in_ok-needs.ensures.page_size c.in_ok-needs.ensures.needs) c.in_ok-needs.ensures.page_size c.in_ok-found.ensures (rw c.page_size.ensures at c.counted_total-total.ensures) _ refl c.in_err-found-2.ensures)
+    rw (p.1, p.2) (read_stopped _ _ _ _ (admission _ _ _ _ c.in_ok-needs.ensures.page_size c.in_ok-needs.ensures.needs) c.in_ok-needs.ensures.page_size c.in_ok-found.ensures c.counted_total-total.ensures _ refl c.in_err-found-2.ensures)
 
 pub returns-then-found-total : goal.returns-then-found-total
-returns-then-found-total c = read_numbers _ _ _ _ (admission _ _ _ _ c.in_ok-needs.ensures.page_size c.in_ok-needs.ensures.needs) c.in_ok-needs.ensures.page_size c.in_ok-found.ensures (rw c.page_size.ensures at c.counted_total-total.ensures) _ refl c.in_ok-found-2.ensures c.if-found-total.true
+returns-then-found-total c = read_numbers _ _ _ _ (admission _ _ _ _ c.in_ok-needs.ensures.page_size c.in_ok-needs.ensures.needs) c.in_ok-needs.ensures.page_size c.in_ok-found.ensures c.counted_total-total.ensures _ refl c.in_ok-found-2.ensures c.if-found-total.true
 
 pub returns-then-found-needs : goal.returns-then-found-needs
-returns-then-found-needs c = read_bytes _ _ _ _ (admission _ _ _ _ c.in_ok-needs.ensures.page_size c.in_ok-needs.ensures.needs) c.in_ok-needs.ensures.page_size c.in_ok-found.ensures (rw c.page_size.ensures at c.counted_total-total.ensures) _ refl c.in_ok-found-2.ensures c.if-found-total.false c.if-found-needs.true
+returns-then-found-needs c = read_bytes _ _ _ _ (admission _ _ _ _ c.in_ok-needs.ensures.page_size c.in_ok-needs.ensures.needs) c.in_ok-needs.ensures.page_size c.in_ok-found.ensures c.counted_total-total.ensures _ refl c.in_ok-found-2.ensures c.if-found-total.false c.if-found-needs.true
 
 pub copy_value-requires : goal.copy_value-requires
-copy_value-requires c = copyable _ _ _ _ (admission _ _ _ _ c.in_ok-needs.ensures.page_size c.in_ok-needs.ensures.needs) c.in_ok-needs.ensures.page_size c.in_ok-found.ensures (rw c.page_size.ensures at c.counted_total-total.ensures) _ refl c.in_ok-found-2.ensures c.if-found-total.false c.if-found-needs.false
+copy_value-requires c = copyable _ _ _ _ (admission _ _ _ _ c.in_ok-needs.ensures.page_size c.in_ok-needs.ensures.needs) c.in_ok-needs.ensures.page_size c.in_ok-found.ensures c.counted_total-total.ensures _ refl c.in_ok-found-2.ensures c.if-found-total.false c.if-found-needs.false
 
 pub returns : goal.returns
-returns c = read_all _ _ _ _ (admission _ _ _ _ c.in_ok-needs.ensures.page_size c.in_ok-needs.ensures.needs) c.in_ok-needs.ensures.page_size c.in_ok-found.ensures (rw c.page_size.ensures at c.counted_total-total.ensures) _ refl c.in_ok-found-2.ensures c.if-found-total.false c.if-found-needs.false c.copy_value.ensures
+returns c = read_all _ _ _ _ (admission _ _ _ _ c.in_ok-needs.ensures.page_size c.in_ok-needs.ensures.needs) c.in_ok-needs.ensures.page_size c.in_ok-found.ensures c.counted_total-total.ensures _ refl c.in_ok-found-2.ensures c.if-found-total.false c.if-found-needs.false c.copy_value.ensures

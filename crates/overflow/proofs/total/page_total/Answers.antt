@@ -14,9 +14,9 @@ returns-then-size-eq0 c = elim c.then-size-eq0.branch [
 ]
 
 pub spare_room-spare-requires : goal.spare_room-spare-requires
-spare_room-spare-requires c = c.least_needed_pages-total.ensures.room
+spare_room-spare-requires c = c.total_needed_pages-totals.ensures.room
 
 pub returns : goal.returns
 unfolding page_total total_of
 returns c =
-    rw (c.spare_room-spare.ensures, le-leb 1 c.args.size (omega arith), ← c.max_overflow_value_size.ensures, le-leb _ _ c.if-max_overflow_value_size-size.false, ← c.least_needed_pages-total.ensures.total, c.min-cell.ensures, c.total_needed_pages-room.ensures.total)
+    rw (c.spare_room-spare.ensures, le-leb 1 c.args.size (omega arith), ← c.max_overflow_value_size.ensures, le-leb _ _ c.if-max_overflow_value_size-size.false, ← c.total_needed_pages-totals.ensures.totals.new, c.min-cell.ensures, c.total_needed_pages-totals.ensures.totals.old)

@@ -1,8 +1,24 @@
--- `total_needed_pages` meets its contract: where the cell holds all numbers there are few pages.
+-- `total_needed_pages` meets its contract: where the pages that the bytes take have room for the numbers too, they are both totals; else each is
+-- these and some more.
 use Rattle.overflow.proofs.total.total_needed_pages.Goals as goal
-use native.Mathlib.Omega.{arith}
-use Rattle.overflow.specs.Totals.{max_size}
+use Rattle.overflow.proofs.NewTotalLaws.{told_few, told_fits, told_more}
 
-pub returns-then-raw-le-MAX_OVERFLOW_CELL_NODE_POINTERS-clause-few : goal.returns-then-raw-le-MAX_OVERFLOW_CELL_NODE_POINTERS-clause-few
-unfolding max_size
-returns-then-raw-le-MAX_OVERFLOW_CELL_NODE_POINTERS-clause-few c = omega (arith, c.if-raw-le-MAX_OVERFLOW_CELL_NODE_POINTERS.true)
+pub returns-then-raw-le-MAX_OVERFLOW_CELL_NODE_POINTERS-clause-totals : goal.returns-then-raw-le-MAX_OVERFLOW_CELL_NODE_POINTERS-clause-totals
+returns-then-raw-le-MAX_OVERFLOW_CELL_NODE_POINTERS-clause-totals c =
+    let page = rw c.bytes-body.ensures.bytes at c.bytes-body.ensures.size in
+    (told_few c.needed_pages-raw.ensures page c.requires.some c.requires.few c.if-raw-le-MAX_OVERFLOW_CELL_NODE_POINTERS.true).are
+
+pub returns-then-numbers-left-clause-totals : goal.returns-then-numbers-left-clause-totals
+returns-then-numbers-left-clause-totals c =
+    let page = rw c.bytes-body.ensures.bytes at c.bytes-body.ensures.size in
+    (told_fits c.needed_pages-raw.ensures page c.requires.some c.requires.few c.if-raw-le-MAX_OVERFLOW_CELL_NODE_POINTERS.false (rw c.bytes-body.ensures.bytes at c.if-numbers-left.true)).are
+
+pub returns-clause-totals : goal.returns-clause-totals
+returns-clause-totals c =
+    let same = c.bytes-body.ensures.bytes in
+    rw same (told_more c.needed_pages-raw.ensures (rw same at c.bytes-body.ensures.size) c.requires.some c.requires.few c.if-raw-le-MAX_OVERFLOW_CELL_NODE_POINTERS.false (rw same at c.if-numbers-left.false)).are
+
+pub returns-clause-room : goal.returns-clause-room
+returns-clause-room c =
+    let same = c.bytes-body.ensures.bytes in
+    rw same (told_more c.needed_pages-raw.ensures (rw same at c.bytes-body.ensures.size) c.requires.some c.requires.few c.if-raw-le-MAX_OVERFLOW_CELL_NODE_POINTERS.false (rw same at c.if-numbers-left.false)).room
