@@ -5,7 +5,7 @@ use mathlib.Core.Path.{◌≡◌, refl, sym, ◌∙◌, ap, subst, subst⁻¹}
 use mathlib.Core.Logic.{⊎_elim}
 use mathlib.Core.Bool.{Bool, true, false, cond}
 use native.Mathlib.Decide.{dec_lt}
-use native.Mathlib.Nat.{lt-div-mul-add, div-mul-le_self, mul-add, mul-suc, mul-zero, mul-le-mul_right}
+use native.Mathlib.Nat.{lt-div-mul-add, div-mul-le_self, div-eq_of_lt-le, add-mul, one-mul, mul-add, mul-suc, mul-zero, mul-le-mul_right}
 use native.Mathlib.Omega.{arith}
 use borrow.Author.Tests.{le-leb, lt-leb, leb-true, leb-false}
 use Rattle.laws.proofs.Tests.{cond_cases}
@@ -197,6 +197,27 @@ module _ (b r size : ℕ) (large : 8 < b) (past : 15 < r) (short : b * r < size 
       let product : more b r size * (b - 4) ≡ k * (b - 4) + (b - 4) = ap (λ (n : ℕ). n * (b - 4)) e ∙ omega arith in
       rw mul-add (omega (arith, pages_room b k large, most, product))
 
+-- the pages that are more than the raw ones, and those by the old rule, which rounds up two bytes sooner
+module _ (m b : ℕ) (large : 8 < b) where
+  abbrev needed : ℕ
+  needed = (m + (b - 5)) / (b - 4)
+
+  abbrev sooner : ℕ
+  sooner = (m + (b - 3)) / (b - 4)
+
+  needed_enough : m ≤ needed * (b - 4)
+  needed_enough = omega (arith, lt-div-mul-add {a = m + (b - 5)} {b = b - 4} (omega arith))
+
+  pub sooner_more : (b - 4) * needed ≤ m + 1 → needed + 1 ≡ sooner
+  sooner_more h =
+      sym (div-eq_of_lt-le {k = needed + 1} (b - 4) {m = m + (b - 3)} (rw (add-mul needed 1 (b - 4), one-mul (b - 4)) (omega (arith, h)))
+      (rw (add-mul (needed + 1) 1 (b - 4), add-mul needed 1 (b - 4), one-mul (b - 4)) (omega (arith, needed_enough))))
+
+  pub sooner_same : m + 1 < (b - 4) * needed → needed ≡ sooner
+  sooner_same h =
+      sym (div-eq_of_lt-le {k = needed} (b - 4) {m = m + (b - 3)} (omega (arith, div-mul-le_self (m + (b - 5)) (b - 4)))
+      (rw (add-mul needed 1 (b - 4), one-mul (b - 4)) (omega (arith, h))))
+
 module _ {s size raw : ℕ} (e : raw ≡ raw_pages s size) (page : IsPageSize s) (some : 1 ≤ size) (few : size ≤ max_size s) where
   -- what is told of them
   pub record Told (totals : Totals) : Type 0 where
@@ -233,10 +254,13 @@ module _ {s size raw : ℕ} (e : raw ≡ raw_pages s size) (page : IsPageSize s)
         told (record { new = raw; old = raw })
         (record { new = new_raw (omega (arith, covers)); old = rw (← e, lt-leb raw cell_numbers past, le-leb (raw - cell_numbers) ((body s * raw - size) / 4) h) })
 
-    pub told_more : (body s * raw - size) / 4 < raw - cell_numbers
-        → let m = size + 4 * (raw - cell_numbers) - body s * raw in Told (record { new = raw + (m + (body s - 5)) / (body s - 4); old = raw + (m + (body s - 3)) / (body s - 4) })
+    -- some more are needed; by the old total it is one more yet, where the last of them has at most a byte left
+    abbrev lacking : ℕ
+    lacking = size + 4 * (raw - cell_numbers) - body s * raw
+
+    told_as : (body s * raw - size) / 4 < raw - cell_numbers → (old : ℕ) → old ≡ raw + (lacking + (body s - 3)) / (body s - 4) → Told (record { new = raw + more (body s) raw size; old = old })
     unfolding old_total
-    told_more h = told _ (record { new = by_count (more (body s) raw size) refl; old = rw (← e, lt-leb raw cell_numbers past, lt-leb (raw - cell_numbers) ((body s * raw - size) / 4) h) })
+    told_as h old is = told _ (record { new = by_count (more (body s) raw size) refl; old = is ∙ rw (← e, lt-leb raw cell_numbers past, lt-leb (raw - cell_numbers) ((body s * raw - size) / 4) h) })
       where
         large : 8 < body s
         large = omega (arith, page_least page)
@@ -249,6 +273,14 @@ module _ {s size raw : ℕ} (e : raw ≡ raw_pages s size) (page : IsPageSize s)
         by_count (suc k) z =
             let one : raw + more (body s) raw size ≡ suc (raw + k) = omega (arith, z) in
             rw one (sym (least_is size page some (raw + k) (rw one at (more_enough (body s) raw size large past short)) (holds_not size page (raw + k) (more_least (body s) raw size large past short k z))))
+
+    pub told_more : (body s * raw - size) / 4 < raw - cell_numbers → (body s - 4) * more (body s) raw size ≤ lacking + 1
+        → Told (record { new = raw + more (body s) raw size; old = raw + more (body s) raw size + 1 })
+    told_more h l = told_as h (raw + more (body s) raw size + 1) (omega (arith, sooner_more lacking (body s) (omega (arith, page_least page)) l))
+
+    pub told_same : (body s * raw - size) / 4 < raw - cell_numbers → lacking + 1 < (body s - 4) * more (body s) raw size
+        → Told (record { new = raw + more (body s) raw size; old = raw + more (body s) raw size })
+    told_same h l = told_as h (raw + more (body s) raw size) (omega (arith, sooner_same lacking (body s) (omega (arith, page_least page)) l))
 
 -- the total of a rule is not much more than the limit
 pub rule_few : {s size : ℕ} (rule : TotalRule) → IsPageSize s → 1 ≤ size → size ≤ max_size s → total_by rule s size ≤ max_size s + 4

@@ -43,7 +43,7 @@ pub fn read(
     })
 }
 
-// Copies the value bytes of the pages of these numbers, one page after another.
+// Copies the value bytes of the pages of these numbers, one page after another. Inlined as the first walk is.
 #[inline(always)]
 fn copy_value(store: &Store, numbers: &[u32], value: &mut [u8])
     requires { Copyable store.now.page_size store.now.bytes numbers.now value.old }

@@ -98,9 +98,13 @@ pub(crate) fn total_needed_pages(page_size: PageSize, size: usize) -> Totals
         return Totals { new: raw, old: raw };
     }
     let missing = size + 4 * numbers - body * raw;
-    Totals {
-        new: raw + (missing + (body - 5)) / (body - 4),
-        old: raw + (missing + (body - 3)) / (body - 4),
+    let more = (missing + (body - 5)) / (body - 4);
+    let new = raw + more;
+    // The Rust rounds up two bytes sooner.
+    if (body - 4) * more <= missing + 1 {
+        Totals { new, old: new + 1 }
+    } else {
+        Totals { new, old: new }
     }
 }
 

@@ -44,7 +44,7 @@ impl Until {
 }
 
 // Walks from a cell to the first page that has value bytes, over one page for each place of the table at most, and fills the table with the
-// first numbers found.
+// first numbers found. Inlined, as a call is a fifth of the time of a value of one page.
 #[inline(always)]
 pub(crate) fn first_walk(
     store: &Store,
