@@ -65,7 +65,7 @@ fn most_pages<R: Values>(extent: Extent) -> usize {
         (Extent::Least, _) => 20,
         (_, 4096) => filled + 3,
         (_, 1024) => 2 * filled,
-        (Extent::Short, _) => 60,
+        (Extent::Short, _) => 120,
         (Extent::Long, _) => 400,
     }
 }
