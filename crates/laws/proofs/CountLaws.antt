@@ -5,14 +5,15 @@ use native.Mathlib.Decide.{dec_lt, ℕ_discrete}
 use native.Mathlib.Omega.{arith}
 use mathlib.Core.Path.{◌≡◌, refl, ap, sym, ◌∙◌}
 use mathlib.Core.Logic.{◌⊎◌, inl, inr}
-use mathlib.Core.Bool.{Bool, true, false, cond}
+use mathlib.Core.Bool.{Bool, true, false, ◌&&◌, cond, and_assoc}
 use mathlib.Core.List.Memᴰ
 use mathlib.Core.List.{List, [], ◌∷◌, ◌++◌, reverse, reverse-cons, Memᴰ}
-use lib.Dec.{eqb}
+use lib.Dec.{eqb, ltb}
 use lib.ListN.{length, get_or, take, drop, take-append-drop}
 use lib.Seq.{take-suc}
-use borrow.Author.Tests.{eq-eqb, ne_eqb, eqb-true}
-use Rattle.laws.specs.Counting.{count, numbers_from, Different}
+use borrow.Author.Tests.{eq-eqb, ne_eqb, eqb-true, ltb-true, lt-ltb}
+use Rattle.laws.specs.Counting.{count, numbers_from, Different, all_different, all_below}
+use Rattle.laws.proofs.Tests.{and-true, same_truth}
 use Rattle.laws.proofs.PlacesLaws.{get_d-mem}
 
 -- ---- lists and their parts
@@ -185,3 +186,77 @@ count-absent x ns f = go (dec_lt 0 (count x ns))
     go : Dec (0 < count x ns) → count x ns ≡ 0
     go (yes y) = absurd (f (count-mem x ns (omega arith)))
     go (no n) = omega arith
+
+-- ---- the tests of a whole list
+
+-- a number that is counted in a list with one more in front is that one, or is counted in the list
+pub counted_first : (x n : ℕ) (ns : List ℕ) → 1 ≤ count x (n ∷ ns) → (x ≡ n) ⊎ (1 ≤ count x ns)
+unfolding count
+counted_first x n ns h = go (eqb x n) refl
+  where
+    go : (b : Bool) → eqb x n ≡ b → (x ≡ n) ⊎ (1 ≤ count x ns)
+    go true e = inl (eqb-true x n e)
+    go false e =
+        let none : ◌≡◌ {A = ℕ} (cond (eqb x n) 1 0) 0 = rw e in
+        inr (omega arith)
+
+pub count_first : (n : ℕ) (ns : List ℕ) → count n (n ∷ ns) ≡ suc (count n ns)
+unfolding count
+count_first n ns = rw (eq-eqb n n refl) (omega arith)
+
+pub count_other : (x n : ℕ) (ns : List ℕ) → (x ≡ n → ⊥) → count x (n ∷ ns) ≡ count x ns
+unfolding count
+count_other x n ns other = rw (ne_eqb x n other) (omega arith)
+
+pub count_more : (x n : ℕ) (ns : List ℕ) → count x ns ≤ count x (n ∷ ns)
+count_more x n ns = omega (arith, count-cons x n ns)
+
+pub below_each : (limit : ℕ) (ns : List ℕ) → all_below limit ns ≡ true → (x : ℕ) → 1 ≤ count x ns → x < limit
+unfolding all_below
+below_each limit [] e x h = absurd (omega (arith, count_none x))
+below_each limit (n ∷ ns) e x h =
+    let t = and-true (ltb n limit) (all_below limit ns) e in
+    go t.0 (below_each limit ns t.1 x) (counted_first x n ns h)
+  where
+    go : ltb n limit ≡ true → (1 ≤ count x ns → x < limit) → (x ≡ n) ⊎ (1 ≤ count x ns) → x < limit
+    go t rest (inl same) = omega (arith, same, ltb-true n limit t)
+    go t rest (inr more) = rest more
+
+pub each_below : (limit : ℕ) (ns : List ℕ) → ((x : ℕ) → 1 ≤ count x ns → x < limit) → all_below limit ns ≡ true
+unfolding all_below
+each_below limit [] f = refl
+each_below limit (n ∷ ns) f =
+    rw (lt-ltb n limit (f n (omega (arith, count_first n ns))), each_below limit ns (λ x h. f x (omega (arith, h, count_more x n ns)))) refl
+
+pub all_different_once : (ns : List ℕ) → all_different ns ≡ true → (x : ℕ) → count x ns ≤ 1
+unfolding all_different
+all_different_once [] e x = omega (arith, count_none x)
+all_different_once (n ∷ ns) e x =
+    let t = and-true (eqb (count n ns) 0) (all_different ns) e in
+    go (ℕ_discrete x n) (eqb-true (count n ns) 0 t.0) (all_different_once ns t.1 x)
+  where
+    go : Dec (x ≡ n) → count n ns ≡ 0 → count x ns ≤ 1 → count x (n ∷ ns) ≤ 1
+    go (yes same) none rest = rw same (omega (arith, count_first n ns, none))
+    go (no other) none rest = omega (arith, rest, count_other x n ns other)
+
+pub once_all_different : (ns : List ℕ) → ((x : ℕ) → count x ns ≤ 1) → all_different ns ≡ true
+unfolding all_different
+once_all_different [] f = refl
+once_all_different (n ∷ ns) f =
+    rw (eq-eqb (count n ns) 0 (omega (arith, f n, count_first n ns)), once_all_different ns (λ x. omega (arith, f x, count_more x n ns))) refl
+
+-- they are decided by how often each number is counted
+pub same_different : (ms ns : List ℕ) → ((x : ℕ) → count x ms ≡ count x ns) → all_different ms ≡ all_different ns
+same_different ms ns f =
+    same_truth (all_different ms) (all_different ns) (λ e. once_all_different ns (λ x. omega (arith, f x, all_different_once ms e x)))
+    (λ e. once_all_different ms (λ x. omega (arith, f x, all_different_once ns e x)))
+
+pub same_below : (limit : ℕ) (ms ns : List ℕ) → ((x : ℕ) → count x ms ≡ count x ns) → all_below limit ms ≡ all_below limit ns
+same_below limit ms ns f =
+    same_truth (all_below limit ms) (all_below limit ns) (λ e. each_below limit ns (λ x h. below_each limit ms e x (omega (arith, h, f x))))
+    (λ e. each_below limit ms (λ x h. below_each limit ns e x (omega (arith, h, f x))))
+
+pub below-append : (limit : ℕ) (ms ns : List ℕ) → all_below limit (ms ++ ns) ≡ all_below limit ms && all_below limit ns
+unfolding all_below
+below-append limit [] ns = refl
+below-append limit (m ∷ ms) ns = ap (λ (b : Bool). ltb m limit && b) (below-append limit ms ns) ∙ sym (and_assoc (ltb m limit) (all_below limit ms) (all_below limit ns))

@@ -1,5 +1,5 @@
 -- Values written to a list one after another, from a place on.
-use Prim.Native.Nat.{ℕ, suc, ◌+◌, ◌-◌, ◌≤◌, ◌<◌}
+use Prim.Native.Nat.{ℕ, zero, suc, ◌+◌, ◌-◌, ◌≤◌, ◌<◌}
 use mathlib.Core.Path.{◌≡◌, refl, sym, ◌∙◌, ap}
 use mathlib.Core.Logic.{◌≢◌}
 use mathlib.Core.List.{List, [], ◌∷◌, ◌++◌, append-nil, append_assoc}
@@ -72,6 +72,22 @@ get_d_sets_before l i [] j d h = refl
 get_d_sets_before l i (x ∷ xs) j d h =
     let ne : j ≢ i = omega arith in
     get_d_sets_before (set l i x) (suc i) xs j d (omega arith) ∙ get_or-set_other l i j x d ne
+
+-- a place behind those that are written, and one of them
+pub get_d_sets_behind : (l : List ℕ) (i : ℕ) (xs : List ℕ) (j d : ℕ) → i + length xs ≤ j → get_or (sets l i xs) j d ≡ get_or l j d
+get_d_sets_behind l i [] j d h = refl
+get_d_sets_behind l i (x ∷ xs) j d h =
+    let ne : j ≢ i = omega arith in
+    get_d_sets_behind (set l i x) (suc i) xs j d (omega arith) ∙ get_or-set_other l i j x d ne
+
+pub get_d_sets_in : (l : List ℕ) (i : ℕ) (xs : List ℕ) (k d : ℕ) → k < length xs → i + k < length l → get_or (sets l i xs) (i + k) d ≡ get_or xs k d
+get_d_sets_in l i [] k d h room = absurd (not-suc-le-zero h)
+get_d_sets_in l i (x ∷ xs) zero d h room =
+    let here : i + 0 ≡ i = omega arith in
+    rw here (get_d_sets_before (set l i x) (suc i) xs i d (omega arith) ∙ get_or-set_same l i x d (omega arith))
+get_d_sets_in l i (x ∷ xs) (suc k) d h room =
+    let next : i + suc k ≡ suc i + k = omega arith in
+    rw next (get_d_sets_in (set l i x) (suc i) xs k d (omega arith) (omega (arith, length-set l i x)))
 
 pub set-sets-before : (l : List ℕ) (i : ℕ) (xs : List ℕ) (j x : ℕ) → j < i → set (sets l i xs) j x ≡ sets (set l j x) i xs
 set-sets-before l i [] j x h = refl

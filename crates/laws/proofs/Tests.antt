@@ -1,7 +1,7 @@
 -- Case analysis: what a condition and a joined test tell.
 use Prim.Native.Nat.{ℕ}
 use native.Mathlib.Omega.{arith}
-use mathlib.Core.Path.{◌≡◌, refl}
+use mathlib.Core.Path.{◌≡◌, refl, sym, ap, ◌∙◌}
 use mathlib.Core.Logic.{◌⊎◌, inl, inr}
 use mathlib.Core.Bool.{Bool, true, false, ◌&&◌, ◌||◌, cond}
 
@@ -37,3 +37,13 @@ or-true false b e = inr e
 pub or-false : (a b : Bool) → a || b ≡ false → (a ≡ false) × (b ≡ false)
 or-false true b e = let z : ◌≡◌ {A = ℕ} 0 1 = cc in absurd (omega arith)
 or-false false b e = (refl, e)
+
+-- tests that hold in the same cases are the same
+pub same_truth : (a b : Bool) → (a ≡ true → b ≡ true) → (b ≡ true → a ≡ true) → a ≡ b
+same_truth true b f g = sym (f refl)
+same_truth false true f g = g refl
+same_truth false false f g = refl
+
+-- no test both holds and fails
+pub not_both : (b : Bool) → b ≡ true → b ≡ false → ⊥
+not_both b t f = let z : ◌≡◌ {A = ℕ} 1 0 = ap (λ (x : Bool). cond {A = ℕ} x 1 0) (sym t ∙ f) in absurd (omega (arith, z))
