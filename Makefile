@@ -51,7 +51,8 @@ example: lib
 	@$(CC11) -o target/save examples/save.c $(LIB)
 	@target/save
 
-# The C programs under valgrind, which must have nothing to report. It maps no store of 1 TiB; here it has 16 GiB.
+# The C programs under valgrind, which must have nothing to report. It maps no store of 1 TiB; here it has 16 GiB, and the largest bit map
+# is for so many pages.
 memcheck: interface totals limits example
 	@valgrind --quiet --error-exitcode=1 target/interface
 	@valgrind --quiet --error-exitcode=1 target/totals

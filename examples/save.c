@@ -13,6 +13,7 @@ static struct root {
     uint8_t cell[100];
 } root = {.head = 0, .bump = 1};
 static uint8_t store[(size_t)LENGTH * PAGE];
+static uint8_t map[LENGTH / 8];  /* a bit for each page, to find a number that occurs twice */
 static uint32_t length = LENGTH; /* the store's, in pages: no save takes it back */
 static int power_is_cut;
 
@@ -39,7 +40,7 @@ static void save(const uint8_t value[SIZE]) {
     if (root.cell_len != 0)
         must(mopsienna_delete_value(root.cell, root.cell_len, store, used, freed, ROOM, out) == 0);
     uint64_t freed_len = out[0]; /* 0 if there is no last value */
-    must(mopsienna_read_list(store, used, root.head, pages, ROOM, entries, ROOM, out) == 0);
+    must(mopsienna_read_list(store, used, root.head, pages, ROOM, entries, ROOM, map, sizeof map, out) == 0);
     uint64_t P = out[0], L = out[1];
     must(mopsienna_total(SIZE, out) == 0);
     uint64_t total = out[0], in_cell = out[1];
@@ -59,7 +60,7 @@ static void save(const uint8_t value[SIZE]) {
     new.cell_len = 40 + 4 * (uint32_t)in_cell;
     /* The new free list, with the freed numbers, and the pages of it that are to be written. */
     must(mopsienna_finish(root.bump, length, P, L, count, pages, ROOM, entries, ROOM, freed, freed_len,
-                          buffer, sizeof buffer, list_numbers, ROOM, out) == 0);
+                          buffer, sizeof buffer, list_numbers, ROOM, map, sizeof map, out) == 0);
     new.head = (uint32_t)out[0];
     new.bump = (uint32_t)out[1];
     length = (uint32_t)out[2];
@@ -78,7 +79,7 @@ static void read_back(const char *name, uint32_t entries[ROOM], const uint8_t ex
     uint64_t out[8];
     must(mopsienna_read_value(root.cell, root.cell_len, store, used, numbers, ROOM, value, SIZE, out) == 0);
     must(out[0] == SIZE && memcmp(value, expected, SIZE) == 0);
-    must(mopsienna_read_list(store, used, root.head, pages, ROOM, entries, ROOM, out) == 0);
+    must(mopsienna_read_list(store, used, root.head, pages, ROOM, entries, ROOM, map, sizeof map, out) == 0);
     printf("%s: reads; head %u, bump %u, %u free pages\n", name, root.head, root.bump, (unsigned)out[1]);
 }
 

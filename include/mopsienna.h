@@ -47,6 +47,9 @@ enum {
     MOPSIENNA_VALUE_PAGE = 16, /* a value page that claims more than its body */
     MOPSIENNA_NUMBERS = 17,    /* the numbers found are not as many as the total */
     MOPSIENNA_BYTES = 18,      /* the bytes found are not as many as the size */
+    MOPSIENNA_MAP = 21,        /* a bit map that is too short */
+    MOPSIENNA_REPEAT = 22,     /* a number that stands twice in a list or is freed twice, or one at
+                                * or past the bump as it has risen */
     MOPSIENNA_EMPTY_PAGE = 25  /* a value page that has no numbers and no bytes */
 };
 
@@ -74,7 +77,8 @@ uint32_t mopsienna_grow(uint32_t page, uint64_t out[8]);
  *   out[0]  P, the pages of the list: pages[0 .. P] hold their numbers
  *   out[1]  L, the entries of the list: entries[0 .. L] hold them
  *
- * The other places of both tables stay as they were, and after a refusal all of them do.
+ * The other places of both tables stay as they were, and after a refusal all of them do. The numbers of
+ * a list that is read, pages and entries, all differ.
  *
  * A list page has the previous page's number in its bytes 0-3, the count of its entries in bytes
  * 4-5, and then the entries, 4 bytes each, at most 1,022; all little-endian. The head holds 1 to
@@ -87,11 +91,17 @@ uint32_t mopsienna_grow(uint32_t page, uint64_t out[8]);
  *   5  the list has not ended after as many pages as the store has; then no further page is looked
  *      at, so that a store with no whole page gives 5 for every head but 0
  * and behind them all
+ *   21 `map` is too short: it has fewer bits than the store has pages
+ *   22 a number occurs twice in the list, among its pages and its entries together
  *   6  a table is shorter than the list
+ *
+ * `map` is a bit map, one bit for each page of the store, eight to a byte, which may hold anything. Its
+ * first page count / 8 bytes, rounded up, are zero after the call, after refusals 22 and 6 too; the others
+ * stay as they were. Refusals 2 to 5 and 21 leave all of it. It is wanted for head 0 too.
  */
 uint32_t mopsienna_read_list(const uint8_t *store, size_t store_len, uint32_t head, uint32_t *pages,
-                             size_t pages_len, uint32_t *entries, size_t entries_len,
-                             uint64_t out[8]);
+                             size_t pages_len, uint32_t *entries, size_t entries_len, uint8_t *map,
+                             size_t map_len, uint64_t out[8]);
 
 /*
  * The next two functions work on an open save. It is
@@ -116,6 +126,9 @@ uint32_t mopsienna_read_list(const uint8_t *store, size_t store_len, uint32_t he
  *   out[1]  the new count
  *   out[2]  the recorded length, grown as mopsienna_grow says if a number past the list is not below it
  *
+ * The numbers that one save is handed out all differ, where its list was read and its entries lie below
+ * the bump, or where a finish made the list.
+ *
  * Refusals: 1 for the save, 7 for a number past the list that is not below MOPSIENNA_MAX_BUMP. After
  * them the save is as it was.
  */
@@ -134,26 +147,36 @@ uint32_t mopsienna_hand_out(uint32_t bump, uint32_t length, uint64_t P, uint64_t
  *   out[4]  L, and entries[0 .. L] hold its entries
  *   out[5]  how many pages are to be written: they fill buffer and numbers from the front
  *
- * All other places stay as they were, and after a refusal all places do. If nothing was handed out
- * from the list and nothing is freed, the list stays and no page is written.
+ * All other places of these four stay as they were, and after a refusal all places do. If nothing was
+ * handed out from the list and nothing is freed, the list stays and no page is written.
  *
- * Where the numbers of the old list, pages and entries, all differ and lie below the bump, a page
- * that is to be written has the number of an old list page only if it holds the previous number and
- * the entries that page holds.
+ * The numbers that were not handed out, the P list pages and the first L - min(count, L) entries, and
+ * the freed numbers must all differ, and the former lie below the bump after the numbers handed out:
+ * that is the bump, and one more for each number handed out past the list. So the numbers of the new
+ * list all differ and lie below the new bump. A page that is to be written has the number of an old list
+ * page only if it holds the previous number and the entries that page holds.
  *
  * Refusals, in this order:
  *   1  the save
  *   7  the new bump would be above MOPSIENNA_MAX_BUMP
  *   8  a freed number is 0 or not below the bump after the numbers handed out; out[0] is the place
  *      of the first such number
+ *   21 `map` is too short: it has fewer bits than the bump after the numbers handed out
+ *   22 a number occurs twice among the list pages, the entries that were not handed out and the freed
+ *      numbers together; or such a page or entry is not below the bump after the numbers handed out
  *   6  a table is shorter than the new list
  *   9  `buffer` or `numbers` is shorter than the pages to be written
+ *
+ * `map` is a bit map, one bit for each number below the bump after the numbers handed out, eight to a
+ * byte, which may hold anything. Its first bytes, that bump / 8 rounded up, are zero after the call, after
+ * refusals 22, 6 and 9 too; the others stay as they were. Refusals 1, 7, 8 and 21 leave all of it. It is
+ * wanted, and 22 is judged, also where nothing was handed out and nothing is freed.
  */
 uint32_t mopsienna_finish(uint32_t bump, uint32_t length, uint64_t P, uint64_t L, uint64_t count,
                           uint32_t *pages, size_t pages_len, uint32_t *entries, size_t entries_len,
                           const uint32_t *freed, size_t freed_len, uint8_t *buffer,
-                          size_t buffer_len, uint32_t *numbers, size_t numbers_len,
-                          uint64_t out[8]);
+                          size_t buffer_len, uint32_t *numbers, size_t numbers_len, uint8_t *map,
+                          size_t map_len, uint64_t out[8]);
 
 /*
  * How many overflow pages a value of `size` bytes takes when it is written: the least number of pages

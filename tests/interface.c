@@ -30,6 +30,22 @@ static void expect(const char *call, uint32_t got, const uint64_t out[8], uint32
     }
 }
 
+/* All places of a buffer from `from` on hold the byte. */
+static int all(const uint8_t *bytes, size_t from, size_t to, uint8_t byte) {
+    for (size_t i = from; i < to; i++)
+        if (bytes[i] != byte)
+            return 0;
+    return 1;
+}
+
+static void check(const char *what, int right) {
+    checks++;
+    if (!right) {
+        failures++;
+        printf("%s: wrong\n", what);
+    }
+}
+
 static void grow(uint32_t page, uint32_t status, uint64_t length) {
     uint64_t out[8];
     char call[64];
@@ -53,13 +69,67 @@ static void total(uint64_t size, uint32_t status, uint64_t pages, uint64_t cell,
 /* What a place of a table, a number list or a page buffer holds before a call. */
 static const uint32_t FILLER = UINT32_C(0xA5A5A5A5);
 
-enum { PAGE = 4096, ROOM = 8 };
+/* FULL entries are on a full list page. MAP bytes are a bit map for more numbers than any list here
+ * needs. */
+enum { PAGE = 4096, FULL = 1022, ROOM = FULL + 8, MAP = 160 };
 
-/* An open save on tables of ROOM places, and what a finish is lent beside them. */
+/* What a call with this status leaves of a dirty map of which so many bits are in use. */
+static void map_is(const char *call, const uint8_t map[MAP], uint32_t status, uint64_t bits) {
+    int used = status == 0 || status == MOPSIENNA_REPEAT || status == MOPSIENNA_TABLES ||
+               status == MOPSIENNA_BUFFER;
+    size_t zeros = used ? (bits + 7) / 8 : 0;
+    checks++;
+    if (!all(map, 0, zeros, 0) || !all(map, zeros, MAP, 0xA5)) {
+        failures++;
+        printf("%s: the map is wrong\n", call);
+    }
+}
+
+/* A table holds these numbers and then the filler. */
+static void holds(const char *table, const uint32_t *got, size_t count, const uint32_t *numbers) {
+    checks++;
+    int right = 1;
+    for (size_t i = 0; i < ROOM; i++)
+        right = right && got[i] == (i < count ? numbers[i] : FILLER);
+    if (!right) {
+        failures++;
+        printf("%s: wrong\n", table);
+    }
+}
+
+/* A store that has room for a list of two pages, and the tables that lists are read into. */
+enum { PAGES = FULL + 4 };
+
+static uint8_t lists[PAGES * PAGE];
+static uint32_t listed_pages[ROOM], listed_entries[ROOM];
+
+/* Reads a list into so many places of the tables, with so many bytes of a dirty map; on a refusal
+ * the tables stay as they were. */
+static void read_list(const char *call, size_t store_len, uint32_t head, size_t places,
+                      size_t map_len, uint32_t status, int count, const uint64_t *values) {
+    uint64_t out[8];
+    uint8_t map[MAP];
+    fill(out);
+    memset(map, 0xA5, sizeof map);
+    memset(listed_pages, 0xA5, sizeof listed_pages);
+    memset(listed_entries, 0xA5, sizeof listed_entries);
+    uint32_t got = mopsienna_read_list(lists, store_len, head, listed_pages, places, listed_entries,
+                                       places, map, map_len, out);
+    expect(call, got, out, status, count, values);
+    map_is(call, map, status, store_len / PAGE);
+    if (status != 0) {
+        holds(call, listed_pages, 0, NULL);
+        holds(call, listed_entries, 0, NULL);
+    }
+}
+
+/* An open save on tables of ROOM places. A finish is lent `places` of both tables, `buffer_len`
+ * bytes of the buffer and `map_len` bytes of a map. */
 struct save {
     uint32_t bump;
     uint32_t length;
     uint64_t P, L, count;
+    uint64_t places, buffer_len, map_len;
     uint32_t pages[ROOM], entries[ROOM], numbers[ROOM];
     uint8_t buffer[4 * PAGE];
 };
@@ -67,6 +137,9 @@ struct save {
 static struct save new_save(uint32_t bump, uint32_t length, uint64_t P, const uint32_t *pages,
                             uint64_t L, const uint32_t *entries, uint64_t count) {
     struct save v = {.bump = bump, .length = length, .P = P, .L = L, .count = count};
+    v.places = ROOM;
+    v.buffer_len = sizeof v.buffer;
+    v.map_len = MAP;
     for (int i = 0; i < ROOM; i++) {
         v.pages[i] = (uint64_t)i < P ? pages[i] : FILLER;
         v.entries[i] = (uint64_t)i < L ? entries[i] : FILLER;
@@ -86,31 +159,22 @@ static void hand_out(const char *call, const struct save *v, uint32_t status, ui
     expect(call, got, out, status, status == 0 ? 3 : 0, values);
 }
 
-/* The save is finished with this room for pages; on a refusal all that is lent stays as it was. */
+/* The save is finished with a dirty map; on a refusal all else that is lent stays as it was. */
 static void finish(const char *call, struct save *v, const uint32_t *freed, size_t freed_len,
-                   size_t buffer_len, uint32_t status, int count, const uint64_t *values) {
+                   uint32_t status, int count, const uint64_t *values) {
     uint64_t out[8];
+    uint8_t map[MAP];
     struct save before = *v;
     fill(out);
-    uint32_t got =
-        mopsienna_finish(v->bump, v->length, v->P, v->L, v->count, v->pages, ROOM, v->entries, ROOM,
-                         freed, freed_len, v->buffer, buffer_len, v->numbers, ROOM, out);
+    memset(map, 0xA5, sizeof map);
+    uint32_t got = mopsienna_finish(v->bump, v->length, v->P, v->L, v->count, v->pages, v->places,
+                                    v->entries, v->places, freed, freed_len, v->buffer,
+                                    v->buffer_len, v->numbers, ROOM, map, v->map_len, out);
     expect(call, got, out, status, count, values);
+    map_is(call, map, status, v->bump + (v->count > v->L ? v->count - v->L : 0));
     if (status != 0 && memcmp(&before, v, sizeof before) != 0) {
         failures++;
         printf("%s: refused, but not as it was\n", call);
-    }
-}
-
-/* A table holds these numbers and then the filler. */
-static void holds(const char *table, const uint32_t *got, size_t count, const uint32_t *numbers) {
-    checks++;
-    int right = 1;
-    for (size_t i = 0; i < ROOM; i++)
-        right = right && got[i] == (i < count ? numbers[i] : FILLER);
-    if (!right) {
-        failures++;
-        printf("%s: wrong\n", table);
     }
 }
 
@@ -129,38 +193,233 @@ static void saves(void) {
     hand_out("hand out past the limit", &v, MOPSIENNA_LIMIT, 0, 0);
     v.bump = 0;
     hand_out("hand out with bump 0", &v, MOPSIENNA_STATE, 0, 0);
-    finish("finish with bump 0", &v, freed, 2, sizeof v.buffer, MOPSIENNA_STATE, 0, NULL);
+    finish("finish with bump 0", &v, freed, 2, MOPSIENNA_STATE, 0, NULL);
 
     v = new_save(9, 8, 1, page, 2, entries, 0);
     const uint64_t same[6] = {3, 9, 16384, 1, 2, 0};
-    finish("finish with nothing done", &v, freed, 0, sizeof v.buffer, 0, 6, same);
+    finish("finish with nothing done", &v, freed, 0, 0, 6, same);
     holds("pages as they were", v.pages, 1, page);
     holds("entries as they were", v.entries, 2, entries);
     holds("no number", v.numbers, 0, NULL);
 
     const uint64_t second[1] = {1};
-    finish("free the bump", &v, bad, 2, sizeof v.buffer, MOPSIENNA_FREED, 1, second);
-    finish("finish without a buffer", &v, freed, 2, PAGE - 1, MOPSIENNA_BUFFER, 0, NULL);
+    finish("free the bump", &v, bad, 2, MOPSIENNA_FREED, 1, second);
+    v.buffer_len = PAGE - 1;
+    finish("finish without a buffer", &v, freed, 2, MOPSIENNA_BUFFER, 0, NULL);
 
     /* 2 is the new page's number; the freed numbers and the old page's follow the entry that is
      * left. */
     const uint64_t changed[6] = {2, 9, 16384, 1, 4, 1};
     const uint32_t new_page[1] = {2}, new_entries[4] = {1, 5, 7, 3};
-    finish("free two numbers", &v, freed, 2, PAGE, 0, 6, changed);
+    v.buffer_len = PAGE;
+    finish("free two numbers", &v, freed, 2, 0, 6, changed);
     holds("the new page", v.pages, 1, new_page);
     holds("the new entries", v.entries, 4, new_entries);
     holds("the page written", v.numbers, 1, new_page);
 
-    uint8_t store[8 * PAGE] = {0};
-    memcpy(store + 2 * PAGE, v.buffer, PAGE);
-    uint64_t out[8];
     const uint64_t size[2] = {1, 4};
-    struct save w = new_save(0, 0, 0, NULL, 0, NULL, 0);
-    fill(out);
-    uint32_t got = mopsienna_read_list(store, sizeof store, 2, w.pages, ROOM, w.entries, ROOM, out);
-    expect("read the new list", got, out, 0, 2, size);
-    holds("the pages read", w.pages, 1, new_page);
-    holds("the entries read", w.entries, 4, new_entries);
+    memcpy(lists + 2 * PAGE, v.buffer, PAGE);
+    read_list("read the new list", 8 * PAGE, 2, ROOM, MAP, 0, 2, size);
+    holds("the pages read", listed_pages, 1, new_page);
+    holds("the entries read", listed_entries, 4, new_entries);
+}
+
+/* A save with bump 9 on a list of one page with two entries. */
+static struct save on_list(uint32_t page, uint32_t first, uint32_t second, uint64_t count) {
+    const uint32_t pages[1] = {page}, entries[2] = {first, second};
+    return new_save(9, 8192, 1, pages, 2, entries, count);
+}
+
+/* The save on so many places of the tables, with so many bytes of the buffer and of a map. */
+static struct save lent(struct save v, uint64_t places, uint64_t buffer_len, uint64_t map_len) {
+    v.places = places;
+    v.buffer_len = buffer_len;
+    v.map_len = map_len;
+    return v;
+}
+
+/* A finish that frees these two numbers, where 0 is none, is refused, with 8 for the second one. */
+static void refused(const char *call, struct save v, uint32_t first, uint32_t second,
+                    uint32_t status) {
+    const uint32_t freed[2] = {first, second};
+    const uint64_t place[1] = {1};
+    finish(call, &v, freed, (first != 0) + (second != 0), status, status == MOPSIENNA_FREED, place);
+}
+
+/* Such a finish is answered, with a list of one page if it has entries. */
+static void answered(const char *call, struct save v, uint32_t first, uint32_t second,
+                     uint64_t head, uint64_t bump, uint64_t L, uint64_t written) {
+    const uint32_t freed[2] = {first, second};
+    const uint64_t answer[6] = {head, bump, 8192, L != 0, L, written};
+    finish(call, &v, freed, (first != 0) + (second != 0), 0, 6, answer);
+}
+
+/* Numbers that occur twice, and numbers that do not lie below the bump. */
+static void repeats_in_saves(void) {
+    const uint32_t again = MOPSIENNA_REPEAT;
+    const struct save empty = new_save(9, 8192, 0, NULL, 0, NULL, 0);
+    refused("a number freed twice", on_list(3, 1, 2, 0), 5, 5, again);
+    refused("a number freed twice, no list", empty, 8, 8, again);
+    refused("a number handed out, freed twice", on_list(3, 1, 2, 1), 2, 2, again);
+    refused("a number from the bump, freed twice", on_list(3, 1, 2, 3), 9, 9, again);
+    refused("a freed list page", on_list(3, 1, 2, 0), 3, 0, again);
+    refused("a freed list page that is emptied", on_list(3, 1, 2, 2), 5, 3, again);
+    refused("a freed entry", on_list(3, 1, 2, 0), 2, 0, again);
+    refused("a freed entry that is left", on_list(3, 1, 2, 1), 5, 1, again);
+    refused("an entry twice, nothing done", on_list(3, 1, 1, 0), 0, 0, again);
+    refused("the list page as an entry, nothing done", on_list(3, 3, 2, 0), 0, 0, again);
+    refused("the list page as the entry that is left", on_list(3, 3, 2, 1), 0, 0, again);
+    refused("two entries 0", on_list(3, 0, 0, 0), 0, 0, again);
+    refused("page 0 and an entry 0", on_list(0, 1, 0, 0), 5, 0, again);
+
+    refused("a list page at the bump", on_list(9, 1, 2, 0), 0, 0, again);
+    refused("an emptied list page at the bump", on_list(9, 1, 2, 2), 5, 0, again);
+    refused("a list page at the raised bump", on_list(10, 1, 2, 3), 5, 0, again);
+    refused("a list page far past the bump", on_list(UINT32_MAX, 1, 2, 0), 5, 0, again);
+    refused("an entry at the bump, nothing done", on_list(3, 1, 9, 0), 0, 0, again);
+    refused("an entry past the map's bytes in use", on_list(3, 16, 2, 1), 5, 0, again);
+    refused("an entry far past the bump", on_list(3, UINT32_MAX, 2, 0), 5, 0, again);
+
+    answered("a number handed out is freed", on_list(3, 1, 2, 1), 2, 0, 1, 9, 2, 1);
+    answered("a number from the bump is freed", on_list(3, 1, 2, 3), 9, 0, 10, 11, 2, 1);
+    answered("an entry handed out is left too", on_list(3, 1, 1, 1), 0, 0, 1, 9, 1, 1);
+    answered("the list page was handed out", on_list(3, 1, 3, 1), 0, 0, 1, 9, 1, 1);
+    answered("an entry handed out past the bump", on_list(3, 1, UINT32_MAX, 1), 0, 0, 1, 9, 1, 1);
+    answered("a list page below the raised bump", on_list(9, 1, 2, 3), 0, 0, 10, 11, 1, 1);
+    answered("a list page just below the bump", on_list(8, 1, 2, 0), 0, 0, 8, 9, 2, 0);
+    answered("one entry 0", on_list(3, 0, 2, 0), 0, 0, 3, 9, 2, 0);
+    answered("page 0", on_list(0, 1, 2, 0), 0, 0, 0, 9, 2, 0);
+
+    /* Page 1 with the entries from 3 up, and page 2 with the one behind them. */
+    const uint32_t bump = FULL + 4;
+    uint32_t pages[2] = {1, 2}, entries[FULL + 1];
+    for (uint32_t i = 0; i <= FULL; i++)
+        entries[i] = 3 + i;
+    const uint64_t both[6] = {2, FULL + 4, 8192, 2, FULL + 1, 0};
+    struct save v = new_save(bump, 8192, 2, pages, FULL + 1, entries, 0);
+    finish("two list pages", &v, pages, 0, 0, 6, both);
+    v.pages[0] = 2;
+    refused("two list pages of one number", v, 0, 0, again);
+    v.pages[0] = 1;
+    v.entries[FULL] = 3;
+    refused("an entry on both pages", v, 0, 0, again);
+    v.entries[FULL] = 1;
+    refused("the lower page as an entry", v, 0, 0, again);
+}
+
+/* How long a map must be, and which refusal comes first. */
+static void maps_in_saves(void) {
+    const uint32_t page[1] = {3}, entries[2] = {1, 2};
+    const struct save nine = on_list(3, 1, 2, 0), eight = new_save(8, 8192, 1, page, 2, entries, 0);
+    const struct save raised = new_save(8, 8192, 1, page, 2, entries, 3);
+    const struct save empty = new_save(1, 8192, 0, NULL, 0, NULL, 0);
+    const struct save full = new_save(MOPSIENNA_MAX_BUMP, 8192, 0, NULL, 0, NULL, 0);
+    const struct save none = new_save(0, 8192, 1, page, 2, entries, 0);
+    const struct save most = on_list(3, 1, 2, UINT64_MAX);
+
+    answered("9 bits in two bytes", lent(nine, ROOM, PAGE, 2), 5, 7, 2, 9, 4, 1);
+    refused("9 bits in one byte", lent(nine, ROOM, PAGE, 1), 5, 7, MOPSIENNA_MAP);
+    answered("the same, nothing done", lent(nine, ROOM, PAGE, 2), 0, 0, 3, 9, 2, 0);
+    refused("one byte, nothing done", lent(nine, ROOM, PAGE, 1), 0, 0, MOPSIENNA_MAP);
+    answered("8 bits in one byte", lent(eight, ROOM, PAGE, 1), 5, 7, 2, 8, 4, 1);
+    refused("8 bits in no byte", lent(eight, ROOM, PAGE, 0), 5, 7, MOPSIENNA_MAP);
+    answered("a raised bump, two bytes", lent(raised, ROOM, PAGE, 2), 5, 7, 9, 10, 3, 1);
+    refused("a raised bump, one byte", lent(raised, ROOM, PAGE, 1), 5, 7, MOPSIENNA_MAP);
+    answered("no list, one byte", lent(empty, ROOM, PAGE, 1), 0, 0, 0, 1, 0, 0);
+    refused("no list, no byte", lent(empty, ROOM, PAGE, 0), 0, 0, MOPSIENNA_MAP);
+
+    refused("1 before 21", lent(none, ROOM, PAGE, 0), 5, 5, MOPSIENNA_STATE);
+    refused("7 before 21", lent(full, ROOM, PAGE, 0), 5, 5, MOPSIENNA_LIMIT);
+    refused("7 for a count past all numbers", lent(most, ROOM, PAGE, 0), 5, 5, MOPSIENNA_LIMIT);
+    refused("8 before 21", lent(nine, ROOM, PAGE, 0), 5, 9, MOPSIENNA_FREED);
+    refused("8 before 22", on_list(3, 1, 1, 0), 5, 9, MOPSIENNA_FREED);
+    refused("21 before 22, 6 and 9", lent(nine, 2, 0, 1), 5, 5, MOPSIENNA_MAP);
+    refused("22 before 6 and 9", lent(nine, 2, 0, 2), 5, 5, MOPSIENNA_REPEAT);
+    refused("22 before 6", lent(nine, 2, PAGE, 2), 5, 5, MOPSIENNA_REPEAT);
+    refused("22 before 9", lent(nine, ROOM, 0, 2), 5, 5, MOPSIENNA_REPEAT);
+    refused("6 before 9", lent(nine, 2, 0, 2), 5, 7, MOPSIENNA_TABLES);
+    refused("9 with a map of two bytes", lent(nine, ROOM, 0, 2), 5, 7, MOPSIENNA_BUFFER);
+}
+
+/* Writes a list page with the entries from `first` up. */
+static void write_list_page(uint32_t page, uint32_t prev, uint32_t count, uint32_t first) {
+    uint8_t *b = lists + page * PAGE;
+    for (int k = 0; k < 4; k++)
+        b[k] = (uint8_t)(prev >> 8 * k);
+    for (int k = 0; k < 2; k++)
+        b[4 + k] = (uint8_t)(count >> 8 * k);
+    for (uint32_t i = 0; i < count; i++)
+        for (int k = 0; k < 4; k++)
+            b[6 + 4 * i + k] = (uint8_t)((first + i) >> 8 * k);
+}
+
+/* Makes an entry of a list page another number. */
+static void put_entry(uint32_t page, uint32_t i, uint8_t number) {
+    uint8_t *b = lists + page * PAGE + 6 + 4 * i;
+    memset(b, 0, 4);
+    b[0] = number;
+}
+
+/* A list on page 2, which has the entries 5, 6 and 7, in a store of nine pages. */
+static void short_lists(void) {
+    const size_t nine = 9 * PAGE, eight = 8 * PAGE;
+    const uint32_t page[1] = {2}, entries[3] = {5, 6, 7};
+    const uint64_t size[2] = {1, 3}, none[2] = {0, 0}, one[1] = {1}, two[1] = {2};
+    write_list_page(2, 0, 3, 5);
+    read_list("a list", nine, 2, ROOM, MAP, 0, 2, size);
+    holds("its page", listed_pages, 1, page);
+    holds("its entries", listed_entries, 3, entries);
+    read_list("short tables", nine, 2, 2, MAP, MOPSIENNA_TABLES, 0, NULL);
+
+    read_list("nine pages, two bytes", nine, 2, ROOM, 2, 0, 2, size);
+    read_list("nine pages, one byte", nine, 2, ROOM, 1, MOPSIENNA_MAP, 0, NULL);
+    read_list("eight pages, one byte", eight, 2, ROOM, 1, 0, 2, size);
+    read_list("eight pages and a part, one byte", nine - 1, 2, ROOM, 1, 0, 2, size);
+    read_list("eight pages, no byte", eight, 2, ROOM, 0, MOPSIENNA_MAP, 0, NULL);
+    read_list("no list, two bytes", nine, 0, 0, 2, 0, 2, none);
+    read_list("no list, one byte", nine, 0, 0, 1, MOPSIENNA_MAP, 0, NULL);
+    read_list("no list, no whole page, no byte", PAGE - 1, 0, 0, 0, 0, 2, none);
+
+    put_entry(2, 2, 5);
+    read_list("an entry twice", nine, 2, ROOM, 2, MOPSIENNA_REPEAT, 0, NULL);
+    read_list("21 before 22", nine, 2, ROOM, 1, MOPSIENNA_MAP, 0, NULL);
+    read_list("22 before 6", nine, 2, 0, 2, MOPSIENNA_REPEAT, 0, NULL);
+    put_entry(2, 2, 7);
+    read_list("21 before 6", nine, 2, 0, 1, MOPSIENNA_MAP, 0, NULL);
+    put_entry(2, 2, 2);
+    read_list("the list page as an entry", nine, 2, ROOM, 2, MOPSIENNA_REPEAT, 0, NULL);
+
+    put_entry(2, 1, 5);
+    put_entry(2, 2, 9);
+    read_list("2 before 21", 2 * PAGE, 2, ROOM, 0, MOPSIENNA_LIST_PAGE, 1, two);
+    read_list("3 before 21", nine, 1, ROOM, 0, MOPSIENNA_COUNT, 1, one);
+    read_list("4 before 21", nine, 2, ROOM, 0, MOPSIENNA_ENTRY, 1, two);
+    read_list("4 before 22", nine, 2, ROOM, 2, MOPSIENNA_ENTRY, 1, two);
+}
+
+/* Page 1 with the entries from 3 up, and page 2 with the one behind them. */
+static void two_pages(void) {
+    const size_t length = sizeof lists, map_len = (PAGES + 7) / 8;
+    const uint64_t size[2] = {2, FULL + 1};
+    write_list_page(1, 0, FULL, 3);
+    write_list_page(2, 1, 1, FULL + 3);
+    read_list("two pages", length, 2, ROOM, map_len, 0, 2, size);
+    put_entry(2, 0, 3);
+    read_list("an entry on both", length, 2, ROOM, map_len, MOPSIENNA_REPEAT, 0, NULL);
+    put_entry(2, 0, 1);
+    read_list("the lower as an entry", length, 2, ROOM, map_len, MOPSIENNA_REPEAT, 0, NULL);
+    put_entry(2, 0, 2);
+    read_list("the head as its entry", length, 2, ROOM, map_len, MOPSIENNA_REPEAT, 0, NULL);
+    write_list_page(2, 1, 1, FULL + 3);
+    put_entry(1, FULL - 1, 2);
+    read_list("the head as an entry below", length, 2, ROOM, map_len, MOPSIENNA_REPEAT, 0, NULL);
+
+    /* Each is now the page below the other, and full. */
+    write_list_page(1, 2, FULL, 3);
+    write_list_page(2, 1, FULL, 3);
+    read_list("5 before 22", length, 2, ROOM, map_len, MOPSIENNA_CHAIN, 0, NULL);
+    read_list("5 before 21", length, 2, ROOM, 0, MOPSIENNA_CHAIN, 0, NULL);
+    read_list("5 before 21, no whole page", PAGE - 1, 2, ROOM, 0, MOPSIENNA_CHAIN, 0, NULL);
 }
 
 /* The pages of a value of SIZE bytes: 16 of them, numbered from FIRST on. */
@@ -168,22 +427,6 @@ enum { SIZE = 61381, TOTAL = 16, FIRST = 3, STORE = (FIRST + TOTAL) * PAGE };
 
 static uint8_t value[SIZE], read_back[SIZE + 8], store[STORE], cell[128];
 static uint32_t numbers[TOTAL], found[TOTAL + 2];
-
-/* All places of a buffer from `from` on hold the byte. */
-static int all(const uint8_t *bytes, size_t from, size_t to, uint8_t byte) {
-    for (size_t i = from; i < to; i++)
-        if (bytes[i] != byte)
-            return 0;
-    return 1;
-}
-
-static void check(const char *what, int right) {
-    checks++;
-    if (!right) {
-        failures++;
-        printf("%s: wrong\n", what);
-    }
-}
 
 /* Writes the value into the store, and its cell. */
 static void write_value(void) {
@@ -354,6 +597,10 @@ static void lookups(void) {
 
 int main(void) {
     saves();
+    repeats_in_saves();
+    maps_in_saves();
+    short_lists();
+    two_pages();
     values();
     lookups();
 

@@ -1,8 +1,8 @@
-/* The limits, tried in a thread with a stack of 256 KiB: the largest bump, counts that no list has, tables
- * and buffers one place short, stores that end within a page, a store of 1 TiB whose list goes round, long
- * lists, ten million freed numbers, the largest value. A finish nests a call for each list page that it uses
- * up, of which there is one to about a million freed numbers; nothing else that takes stack grows with its
- * input. */
+/* The limits, tried in a thread with a stack of 256 KiB: the largest bump and the largest page count with
+ * their bit maps, counts that no list has, tables, buffers and maps one place short, stores that end within a
+ * page, a store of 1 TiB whose list goes round, long lists, ten million freed numbers, the largest value. A
+ * finish nests a call for each list page that it uses up, of which there is one to about a million freed
+ * numbers; nothing else that takes stack grows with its input. */
 #define _DEFAULT_SOURCE
 #include "mopsienna.h"
 
@@ -57,6 +57,25 @@ static int untouched(const uint64_t out[8], int from) {
     return right;
 }
 
+/* How many bytes a bit map of so many bits has. */
+static size_t map_bytes(uint64_t bits) { return (bits + 7) / 8; }
+
+/* A bit map of so many bytes, which hold anything. Nothing behind it can be read or written. */
+static uint8_t *new_map(size_t length) {
+    size_t pages = length / PAGE + 1;
+    return memset(new_store(pages) + pages * PAGE - length, 0xA5, length);
+}
+
+static void free_map(uint8_t *map, size_t length) {
+    size_t pages = length / PAGE + 1;
+    free_store(map + length - pages * PAGE, pages);
+}
+
+/* All bytes of a map are this one. */
+static int map_is(const uint8_t *map, size_t length, uint8_t byte) {
+    return length == 0 || (map[0] == byte && memcmp(map, map + 1, length - 1) == 0);
+}
+
 static void fill(uint64_t out[8]) {
     for (int i = 0; i < 8; i++)
         out[i] = UNTOUCHED;
@@ -67,18 +86,13 @@ static void put(uint8_t *at, int bytes, uint32_t number) {
         at[i] = (uint8_t)(number >> (8 * i));
 }
 
-/* Entry i of a page, a page of the store. */
-static uint32_t entry(size_t pages, uint32_t page, uint32_t i) {
-    return (uint32_t)(1 + ((size_t)page * FULL + i) % (pages - 1));
-}
-
 /* Writes a full list page. */
-static void write_page(uint8_t *store, size_t pages, uint32_t page, uint32_t prev) {
+static void write_page(uint8_t *store, uint32_t page, uint32_t prev, const uint32_t entries[FULL]) {
     uint8_t *b = store + (size_t)page * PAGE;
     put(b, 4, prev);
     put(b + 4, 2, FULL);
     for (uint32_t i = 0; i < FULL; i++)
-        put(b + 6 + 4 * i, 4, entry(pages, page, i));
+        put(b + 6 + 4 * i, 4, entries[i]);
 }
 
 static void expect(const char *call, int right) {
@@ -89,53 +103,100 @@ static void expect(const char *call, int right) {
     }
 }
 
-/* The pages of the sparse store: 1 TiB of them, or what the program's argument says as a power of 2. */
+/* The pages of the sparse store, which are 1 TiB, and the bump whose map is the largest. The program's
+ * argument, a power of 2, is put for both, and leaves out what else takes so much. */
 static size_t sparse_pages = (size_t)1 << 28;
+static uint32_t mapped_bump = MOPSIENNA_MAX_BUMP;
 
-/* Two full pages that point at each other in a sparse store: the walk sees that it has come back. */
+/* Two full pages that point at each other in a sparse store: the walk sees that it has come back, and does
+ * not come to the map, which is too short. */
 static void endless(void) {
     const size_t pages = sparse_pages;
-    uint8_t *store = new_store(pages);
+    uint8_t *store = new_store(pages), map[1] = {0xA5};
     uint32_t *table = new_table(2);
+    uint32_t entries[FULL];
     uint64_t out[8];
     fill(out);
-    write_page(store, pages, 1, (uint32_t)pages - 1);
-    write_page(store, pages, (uint32_t)pages - 1, 1);
+    for (uint32_t i = 0; i < FULL; i++)
+        entries[i] = i + 1;
+    write_page(store, 1, (uint32_t)pages - 1, entries);
+    write_page(store, (uint32_t)pages - 1, 1, entries);
 
-    uint32_t got = mopsienna_read_list(store, pages * PAGE, 1, table, 1, table + 1, 1, out);
+    uint32_t got = mopsienna_read_list(store, pages * PAGE, 1, table, 1, table + 1, 1, map, 1, out);
 
-    expect("two pages that point at each other",
-           got == MOPSIENNA_CHAIN && untouched(out, 0) && table[0] == UNTOUCHED && table[1] == UNTOUCHED);
+    expect("two pages that point at each other", got == MOPSIENNA_CHAIN && untouched(out, 0) &&
+                                                     table[0] == UNTOUCHED && table[1] == UNTOUCHED &&
+                                                     map[0] == 0xA5);
     free(table);
     free_store(store, pages);
 }
 
-/* A list of 3,000 full pages, in tables that are one place longer. */
-static void long_list(void) {
-    const uint32_t list = 3000;
-    const size_t pages = 2 * list;
-    uint8_t *store = new_store(pages);
-    uint32_t *numbers = new_table(list + 1);
-    uint32_t *entries = new_table((size_t)list * FULL + 1);
+/* A store of more than 2^32 pages, of which 2^32 - 1 count. Its map has 512 MiB. */
+static void largest_store(void) {
+    const size_t pages = ((size_t)1 << 32) + 9, map_len = (size_t)1 << 29;
+    uint8_t *store = new_store(pages), *map = new_map(map_len);
+    uint32_t numbers[1] = {UNTOUCHED}, entries[2] = {UNTOUCHED, UNTOUCHED};
     uint64_t out[8];
+    put(store + PAGE + 4, 2, 2);
+    put(store + PAGE + 6, 4, UINT32_MAX - 1);
+    put(store + PAGE + 10, 4, 2);
+
     fill(out);
-    /* Every other page, from the bottom up. */
+    uint32_t got = mopsienna_read_list(store, pages * PAGE, 1, numbers, 1, entries, 2, map, map_len - 1, out);
+    expect("the largest page count, and a map of a byte less",
+           got == MOPSIENNA_MAP && untouched(out, 0) && map_is(map, map_len, 0xA5));
+
+    got = mopsienna_read_list(store, pages * PAGE, 1, numbers, 1, entries, 2, map, map_len, out);
+    expect("the largest page count", got == 0 && out[0] == 1 && out[1] == 2 && untouched(out, 2) &&
+                                         numbers[0] == 1 && entries[0] == UINT32_MAX - 1 && entries[1] == 2 &&
+                                         map_is(map, map_len, 0));
+    free_map(map, map_len);
+    free_store(store, pages);
+}
+
+/* A list of 3,000 full pages, in tables that are one place longer. Its pages are every other one at the front
+ * of the store, from the bottom up, and its entries all pages behind them, in another order. */
+static void long_list(void) {
+    const uint32_t list = 3000, listed = list * FULL, step = 7919;
+    const size_t pages = 2 * list + listed, map_len = map_bytes(pages);
+    uint8_t *store = new_store(pages), *map = new_map(map_len);
+    uint32_t *numbers = new_table(list + 1);
+    uint32_t *entries = new_table(listed + 1);
+    uint32_t *expected = new_table(listed);
+    uint64_t out[8];
+    for (uint32_t i = 0; i < listed; i++)
+        expected[i] = 2 * list + (uint32_t)((uint64_t)i * step % listed);
     for (uint32_t p = 0; p < list; p++)
-        write_page(store, pages, 2 * p + 1, p == 0 ? 0 : 2 * p - 1);
+        write_page(store, 2 * p + 1, p == 0 ? 0 : 2 * p - 1, expected + p * FULL);
+    uint8_t *last = store + (size_t)(2 * list - 1) * PAGE + 6 + 4 * (FULL - 1);
 
+    fill(out);
     uint32_t got = mopsienna_read_list(store, pages * PAGE, 2 * list - 1, numbers, list + 1, entries,
-                                       (size_t)list * FULL + 1, out);
+                                       listed + 1, map, map_len - 1, out);
+    expect("a list of 3,000 full pages, and a map of a byte less",
+           got == MOPSIENNA_MAP && untouched(out, 0) && map_is(map, map_len, 0xA5));
 
-    int right = got == 0 && out[0] == list && out[1] == (uint64_t)list * FULL && untouched(out, 2);
-    for (uint32_t p = 0; p < list; p++) {
+    put(last, 4, 1);
+    got = mopsienna_read_list(store, pages * PAGE, 2 * list - 1, numbers, list + 1, entries, listed + 1, map,
+                              map_len, out);
+    expect("the bottom page as the last entry", got == MOPSIENNA_REPEAT && untouched(out, 0) &&
+                                                    numbers[0] == UNTOUCHED && entries[0] == UNTOUCHED &&
+                                                    map_is(map, map_len, 0));
+
+    put(last, 4, expected[listed - 1]);
+    memset(map, 0xA5, map_len);
+    got = mopsienna_read_list(store, pages * PAGE, 2 * list - 1, numbers, list + 1, entries, listed + 1, map,
+                              map_len, out);
+    int right = got == 0 && out[0] == list && out[1] == listed && untouched(out, 2) &&
+                memcmp(entries, expected, listed * sizeof *entries) == 0 && map_is(map, map_len, 0);
+    for (uint32_t p = 0; p < list; p++)
         right = right && numbers[p] == 2 * p + 1;
-        for (uint32_t i = 0; i < FULL; i++)
-            right = right && entries[(size_t)p * FULL + i] == entry(pages, 2 * p + 1, i);
-    }
-    right = right && numbers[list] == UNTOUCHED && entries[(size_t)list * FULL] == UNTOUCHED;
+    right = right && numbers[list] == UNTOUCHED && entries[listed] == UNTOUCHED;
     expect("a list of 3,000 full pages", right);
+    free(expected);
     free(entries);
     free(numbers);
+    free_map(map, map_len);
     free_store(store, pages);
 }
 
@@ -162,7 +223,8 @@ static void large_save(const char *call, uint32_t list) {
     uint32_t *numbers = new_table(room);
     uint8_t *buffer = new_store(room);
     uint64_t out[8];
-    /* The entries, the pages and the freed numbers, one after another from 1 up. */
+    /* The entries, the pages and the freed numbers, one after another from 1 up, which are all below the
+     * bump. */
     uint32_t next = 1;
     for (size_t i = 0; i < listed; i++)
         entries[i] = next++;
@@ -170,11 +232,22 @@ static void large_save(const char *call, uint32_t list) {
         pages[p] = next++;
     for (uint32_t i = 0; i < freed_count; i++)
         freed[i] = next++;
+    const size_t map_len = map_bytes(next);
+    uint8_t *map = new_map(map_len);
     fill(out);
 
+    freed[freed_count - 1] = 1;
     uint32_t got =
         mopsienna_finish(next, 8192, list, listed, 0, pages, room, entries, listed + freed_count + room,
-                         freed, freed_count, buffer, (size_t)room * PAGE, numbers, room, out);
+                         freed, freed_count, buffer, (size_t)room * PAGE, numbers, room, map, map_len, out);
+    expect("the least number once more, freed last", got == MOPSIENNA_REPEAT && untouched(out, 0) &&
+                                                         numbers[0] == UNTOUCHED && buffer[0] == 0 &&
+                                                         map_is(map, map_len, 0));
+
+    freed[freed_count - 1] = next - 1;
+    memset(map, 0xA5, map_len);
+    got = mopsienna_finish(next, 8192, list, listed, 0, pages, room, entries, listed + freed_count + room,
+                           freed, freed_count, buffer, (size_t)room * PAGE, numbers, room, map, map_len, out);
 
     /* Nothing was handed out: what the list holds is what it held, what was freed, and what the bump gave. */
     int right = got == 0 && untouched(out, 6) && out[0] == pages[out[3] - 1] &&
@@ -185,8 +258,9 @@ static void large_save(const char *call, uint32_t list) {
         right =
             numbers[j] == pages[first + j] && page_is(buffer + j * PAGE, pages, entries, out[4], first + j);
     right = right && pages[out[3]] == UNTOUCHED && entries[out[4]] == UNTOUCHED &&
-            numbers[out[5]] == UNTOUCHED && buffer[out[5] * PAGE] == 0;
+            numbers[out[5]] == UNTOUCHED && buffer[out[5] * PAGE] == 0 && map_is(map, map_len, 0);
     expect(call, right);
+    free_map(map, map_len);
     free(numbers);
     free(freed);
     free(entries);
@@ -279,20 +353,20 @@ static void bumps(void) {
 
 /* A finish that frees one number, with these places lent beside what it needs. */
 static void freed_one(const char *call, uint32_t bump, size_t pages_len, size_t entries_len,
-                      size_t buffer_len, size_t numbers_len, uint32_t status) {
+                      size_t buffer_len, size_t numbers_len, size_t map_len, uint32_t status) {
     const uint32_t freed[1] = {1};
     uint32_t pages[2] = {UNTOUCHED, UNTOUCHED}, entries[2] = {UNTOUCHED, UNTOUCHED};
     uint32_t numbers[2] = {UNTOUCHED, UNTOUCHED};
-    uint8_t buffer[PAGE + 1], expected[PAGE + 1];
+    uint8_t buffer[PAGE + 1], expected[PAGE + 1], *map = new_map(map_len);
     uint64_t out[8];
     memset(buffer, 0xA5, sizeof buffer);
     memset(expected, 0xA5, sizeof expected);
     fill(out);
 
     uint32_t got = mopsienna_finish(bump, bump, 0, 0, 0, pages, pages_len, entries, entries_len, freed, 1,
-                                    buffer, buffer_len, numbers, numbers_len, out);
+                                    buffer, buffer_len, numbers, numbers_len, map, map_len, out);
 
-    int done = status == 0;
+    int done = status == 0, judged = done || status == MOPSIENNA_TABLES || status == MOPSIENNA_BUFFER;
     if (done) {
         memset(expected, 0, PAGE);
         expected[4] = expected[6] = 1;
@@ -300,30 +374,64 @@ static void freed_one(const char *call, uint32_t bump, size_t pages_len, size_t 
     int right = got == status && memcmp(buffer, expected, sizeof buffer) == 0 &&
                 pages[0] == (done ? bump : UNTOUCHED) && pages[1] == UNTOUCHED &&
                 entries[0] == (done ? 1 : UNTOUCHED) && entries[1] == UNTOUCHED &&
-                numbers[0] == (done ? bump : UNTOUCHED) && numbers[1] == UNTOUCHED;
+                numbers[0] == (done ? bump : UNTOUCHED) && numbers[1] == UNTOUCHED &&
+                map_is(map, map_len, judged ? 0 : 0xA5);
     if (done)
         right = right && out[0] == bump && out[1] == (uint64_t)bump + 1 && out[3] == 1 && out[4] == 1 &&
                 out[5] == 1 && untouched(out, 6);
     else
         right = right && untouched(out, 0);
     expect(call, right);
+    free_map(map, map_len);
 }
 
 static void finishes(void) {
     const uint32_t most = MOPSIENNA_MAX_BUMP;
-    freed_one("just the room that it needs", 30, 1, 1, PAGE, 1, 0);
-    freed_one("the last bump for a list page", most - 1, 1, 1, PAGE, 1, 0);
-    freed_one("a bump past the last for a list page", most, 1, 1, PAGE, 1, MOPSIENNA_LIMIT);
-    freed_one("a page table of no place", 30, 0, 1, PAGE, 1, MOPSIENNA_TABLES);
-    freed_one("an entry table of no place", 30, 1, 0, PAGE, 1, MOPSIENNA_TABLES);
-    freed_one("a buffer of a byte less", 30, 1, 1, PAGE - 1, 1, MOPSIENNA_BUFFER);
-    freed_one("a number list of no place", 30, 1, 1, PAGE, 0, MOPSIENNA_BUFFER);
+    freed_one("just the room that it needs", 30, 1, 1, PAGE, 1, 4, 0);
+    freed_one("a bump past the last for a list page", most, 1, 1, PAGE, 1, 0, MOPSIENNA_LIMIT);
+    freed_one("a page table of no place", 30, 0, 1, PAGE, 1, 4, MOPSIENNA_TABLES);
+    freed_one("an entry table of no place", 30, 1, 0, PAGE, 1, 4, MOPSIENNA_TABLES);
+    freed_one("a buffer of a byte less", 30, 1, 1, PAGE - 1, 1, 4, MOPSIENNA_BUFFER);
+    freed_one("a number list of no place", 30, 1, 1, PAGE, 0, 4, MOPSIENNA_BUFFER);
+    freed_one("a map of a byte less", 30, 1, 1, PAGE, 1, 3, MOPSIENNA_MAP);
+    if (mapped_bump == most)
+        freed_one("the last bump for a list page", most - 1, 1, 1, PAGE, 1, map_bytes(most - 1), 0);
+}
+
+/* A save at the largest bump that frees the last number below it, once or twice. The map has 512 MiB. */
+static void largest_map(void) {
+    const uint32_t bump = mapped_bump, freed[2] = {bump - 1, bump - 1};
+    const size_t map_len = map_bytes(bump);
+    uint32_t pages[1] = {3}, entries[3] = {1, 2, UNTOUCHED}, numbers[1] = {UNTOUCHED};
+    uint8_t buffer[PAGE], *map = new_map(map_len);
+    uint64_t out[8];
+
+    fill(out);
+    uint32_t got = mopsienna_finish(bump, bump, 1, 2, 0, pages, 1, entries, 3, freed, 1, buffer, PAGE,
+                                    numbers, 1, map, map_len - 1, out);
+    expect("the largest bump, and a map of a byte less",
+           got == MOPSIENNA_MAP && untouched(out, 0) && map_is(map, map_len, 0xA5));
+
+    got = mopsienna_finish(bump, bump, 1, 2, 0, pages, 1, entries, 3, freed, 2, buffer, PAGE, numbers, 1, map,
+                           map_len, out);
+    expect("the last number twice", got == MOPSIENNA_REPEAT && untouched(out, 0) && entries[1] == 2 &&
+                                        numbers[0] == UNTOUCHED && map_is(map, map_len, 0));
+
+    memset(map, 0xA5, map_len);
+    got = mopsienna_finish(bump, bump, 1, 2, 0, pages, 1, entries, 3, freed, 1, buffer, PAGE, numbers, 1, map,
+                           map_len, out);
+    expect("the largest bump", got == 0 && out[0] == 2 && out[1] == bump && out[2] == bump && out[3] == 1 &&
+                                   out[4] == 3 && out[5] == 1 && untouched(out, 6) && pages[0] == 2 &&
+                                   entries[0] == 1 && entries[1] == bump - 1 && entries[2] == 3 &&
+                                   numbers[0] == 2 && page_is(buffer, pages, entries, 3, 0) &&
+                                   map_is(map, map_len, 0));
+    free_map(map, map_len);
 }
 
 /* A store that ends within its third page: that page is not there. */
 static void partial_store(void) {
     const size_t length = 3 * PAGE - 1;
-    uint8_t *store = new_store(3), value[1] = {0xA5}, cell[44];
+    uint8_t *store = new_store(3), value[1] = {0xA5}, cell[44], map[1] = {0xA5};
     uint32_t numbers[1] = {2}, tables[2] = {UNTOUCHED, UNTOUCHED};
     const uint8_t hash[32] = {0};
     uint64_t out[8];
@@ -332,12 +440,16 @@ static void partial_store(void) {
     put(store + PAGE + 4, 2, 1);
     put(store + PAGE + 6, 4, 2);
     fill(out);
-    uint32_t got = mopsienna_read_list(store, length, 1, tables, 1, tables + 1, 1, out);
+    uint32_t got = mopsienna_read_list(store, length, 1, tables, 1, tables + 1, 1, map, 1, out);
     expect("an entry in the partial page",
            got == MOPSIENNA_ENTRY && out[0] == 1 && untouched(out, 1) && tables[1] == UNTOUCHED);
     fill(out);
-    got = mopsienna_read_list(store, length, 2, tables, 1, tables + 1, 1, out);
+    got = mopsienna_read_list(store, length, 2, tables, 1, tables + 1, 1, map, 1, out);
     expect("a list in the partial page", got == MOPSIENNA_LIST_PAGE && out[0] == 2 && untouched(out, 1));
+    put(store + PAGE + 6, 4, 1);
+    fill(out);
+    got = mopsienna_read_list(store, length, 1, tables, 1, tables + 1, 1, map, 1, out);
+    expect("a list page as its entry", got == MOPSIENNA_REPEAT && untouched(out, 0) && map[0] == 0);
 
     mopsienna_encode_cell(1, hash, numbers, 1, cell, sizeof cell);
     fill(out);
@@ -353,8 +465,11 @@ static void partial_store(void) {
 static void *run(void *unused) {
     bumps();
     finishes();
+    largest_map();
     partial_store();
     endless();
+    if (mapped_bump == MOPSIENNA_MAX_BUMP)
+        largest_store();
     long_list();
     large_save("ten million freed, no list", 0);
     large_save("ten million freed, a list of 3,000 full pages", 3000);
@@ -364,7 +479,7 @@ static void *run(void *unused) {
 
 int main(int count, char **arguments) {
     if (count > 1)
-        sparse_pages = (size_t)1 << atoi(arguments[1]);
+        sparse_pages = mapped_bump = (uint32_t)1 << atoi(arguments[1]);
     pthread_attr_t small;
     pthread_t thread;
     if (pthread_attr_init(&small) != 0 || pthread_attr_setstacksize(&small, STACK) != 0 ||

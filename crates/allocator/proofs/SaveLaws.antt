@@ -11,7 +11,7 @@ use borrow.Author.Tests.{le-leb, lt-leb, leb-true, ne_eqb, lt-ltb, le-ltb}
 use lib.ListN.{length, get_or}
 use Rattle.refusal.specs.Outcome.{answer, refused}
 use Rattle.refusal.specs.Effect.{effect}
-use Rattle.laws.proofs.Tests.{and-true, and-true_right, and-false_right}
+use Rattle.laws.proofs.Tests.{same_truth, and-true, and-true_right, and-false_right}
 use Rattle.page.specs.PageSize.{capacity}
 use Rattle.page.specs.Growth.{max_bump, grown, grow}
 use Rattle.free_list.specs.Shape.{is_shape}
@@ -19,12 +19,6 @@ use Rattle.allocator.specs.Answers.{save_of}
 use Rattle.allocator.specs.declared.save.Start.{Start}
 use Rattle.allocator.specs.declared.save.OpenSave.{OpenSave}
 use Rattle.allocator.specs.OpenSave.{Save, state_fits, bumped, next_number, next_recorded, hand_out, counters, count_up}
-
--- two tests that hold together are equal
-same_test : (a b : Bool) → (a ≡ true → b ≡ true) → (b ≡ true → a ≡ true) → a ≡ b
-same_test true b f g = sym (f refl)
-same_test false true f g = g refl
-same_test false false f g = refl
 
 -- no entries: no pages
 pub shape_none : (c P L : ℕ) → L ≡ 0 → eqb P 0 ≡ is_shape c P L
@@ -54,7 +48,7 @@ module _ (c P L : ℕ) (pos : 2 ≤ c) (some : L ≡ 0 → ⊥) where
   pub shape_enough : (L - 1) / c < P → leb (P - 1) (L / c) ≡ is_shape c P L
   shape_enough h =
       let most : L ≤ c * P = omega (arith, mul-le-mul_left c h, lt-div-mul-add {a = L - 1} {b = c} (omega arith)) in
-      sym (shape_some ∙ rw (le-leb L (c * P) most) (and-true_right (leb (c * (P - 1)) L)) ∙ same_test (leb (c * (P - 1)) L) (leb (P - 1) (L / c)) down up)
+      sym (shape_some ∙ rw (le-leb L (c * P) most) (and-true_right (leb (c * (P - 1)) L)) ∙ same_truth (leb (c * (P - 1)) L) (leb (P - 1) (L / c)) down up)
     where
       down : leb (c * (P - 1)) L ≡ true → leb (P - 1) (L / c) ≡ true
       down e = le-leb (P - 1) (L / c) ((le-div_iff_mul-le {k = c} {x = P - 1} {y = L} (omega arith)).1 (rw mul_comm (leb-true (c * (P - 1)) L e)))

@@ -32,8 +32,8 @@ HandsOut s bump length p l count pages entries out r =
 abbrev pub finish_values : FinishAnswer → List ℕ
 finish_values a = a.head ∷ a.bump ∷ a.recorded ∷ a.P ∷ a.L ∷ a.count ∷ []
 
-abbrev pub Finishes : ℕ → ℕ → ℕ → ℕ → ℕ → ℕ → LentMut → LentMut → Lent → LentMut → LentMut → LentMut → ℕ → Type 0
-Finishes s bump length p l count pages entries freed buffer numbers out r =
-    left r out (finish_lent after pages entries buffer numbers)
+abbrev pub Finishes : ℕ → ℕ → ℕ → ℕ → ℕ → ℕ → LentMut → LentMut → Lent → LentMut → LentMut → LentMut → LentMut → ℕ → Type 0
+Finishes s bump length p l count pages entries freed buffer numbers map out r =
+    left r out (finish_lent after pages entries buffer numbers map)
     ≡ called finish_values (before out)
-    (finish_into s (open_save bump length p l count (before pages) (before entries)) (given freed) (finish_room before buffer numbers))
+    (finish_into s (open_save bump length p l count (before pages) (before entries)) (given freed) (finish_room before buffer numbers map))

@@ -25,9 +25,10 @@ pub fn read_list(
     head: u32,
     pages: &mut [u32],
     entries: &mut [u32],
+    map: &mut [u8],
     out: &mut [u64; 8],
 ) -> u32
-    ensures { ReadsList page_size store head pages entries out result }
+    ensures { ReadsList page_size store head pages entries map out result }
 {
     let store = Store::new(page_size, store);
     report(
@@ -36,6 +37,7 @@ pub fn read_list(
             Reading::Strict,
             PageNumber(head),
             Tables { pages, entries },
+            map,
         ),
         out,
     )

@@ -87,14 +87,15 @@ pub fn finish(
     freed: &[u32],
     buffer: &mut [u8],
     numbers: &mut [u32],
+    map: &mut [u8],
     out: &mut [u64; 8],
 ) -> u32
-    ensures { Finishes page_size bump length p l count pages entries freed buffer numbers out result }
+    ensures { Finishes page_size bump length p l count pages entries freed buffer numbers map out result }
 {
     let save = save_of(bump, length, p, l, count);
     let tables = Tables { pages, entries };
     report(
-        finisher::finish::finish(page_size, save, tables, freed, buffer, numbers),
+        finisher::finish::finish(page_size, save, tables, freed, buffer, numbers, map),
         out,
     )
 }

@@ -26,8 +26,8 @@ use Rattle.preallocate.proofs.SomeLaws.{plan_some}
 use Rattle.preallocate.proofs.PlanLaws.{plan_kept, plan_left}
 use Rattle.allocator.specs.OpenSave.{Save, list_of, bumped}
 use Rattle.allocator.proofs.SaveLaws.{Stands, stands}
-use Rattle.free_list.specs.Reading.{ListTables}
-use Rattle.finisher.specs.Finish.{Finished, FinishLent, new_list, encoded_pages, carried_out, finished, bytes_of_pages, stored, room_in}
+use Rattle.free_list.specs.Reading.{list_in, ListTables}
+use Rattle.finisher.specs.Finish.{Finished, new_list, encoded_pages, carried_out, tables_of, finished, bytes_of_pages, with_pages, with_numbers}
 use Rattle.finisher.specs.Steps.{popped, unchanged, plan_for, new_numbers, new_tables, push_list, bytes_from, Pushable, Goes, Changed, Doable}
 use Rattle.finisher.specs.declared.judge.Work.{Work}
 use Rattle.finisher.proofs.EncodeLaws.{length-encoded_pages}
@@ -287,8 +287,8 @@ module _ {s : ℕ} {v : Save} {freed : List ℕ} {work : Work} (h : Doable s v f
 -- ---- a finish that answers
 
 module _ {s : ℕ} {v : Save} {freed : List ℕ} {work : Work} {buffer numbers : List ℕ} (g : Goes s v freed work buffer numbers) where
-  did : Succeeds s v freed (finished s v freed) × Room s v (finished s v freed) (room_in (record { buffer = buffer; numbers = numbers }))
-  did = succeeds s v freed (room_in (record { buffer = buffer; numbers = numbers })) (finished s v freed) g.answers
+  did : Succeeds s v freed (finished s v freed) × Room s v (finished s v freed) (record { bytes = length buffer; numbers = length numbers; map = g.map })
+  did = succeeds s v freed (record { bytes = length buffer; numbers = length numbers; map = g.map }) (finished s v freed) g.answers
 
   work-written : work.written ≡ length (finished s v freed).written
   work-written = ap (λ (w : Work). w.written) g.is
@@ -318,18 +318,22 @@ module _ {s : ℕ} {v : Save} {freed : List ℕ} {work : Work} {buffer numbers :
           }
 
   -- where none is, nothing does
-  pub goes_same : work.written ≡ 0
-      → let l : FinishLent = record { tables = record { pages = v.page_table; entries = v.entry_table }; room = record { buffer = buffer; numbers = numbers } } in
-      l ≡ stored l (finished s v freed)
-  unfolding bytes_of_pages
-  goes_same none = go (unchanged v freed) refl
+  same : work.written ≡ 0 → finished s v freed ≡ record { list = list_of v; bump = bumped v; written = [] }
+  same none = go (unchanged v freed) refl
     where
-      filled : (l : List ℕ) (n : ℕ) → n ≤ length l → sets l 0 (take n l) ≡ l
-      filled l n h = ap (sets l 0) (sym (append-nil (take n l))) ∙ sets-kept l n [] h
+      go : (q : Bool) → unchanged v freed ≡ q → finished s v freed ≡ record { list = list_of v; bump = bumped v; written = [] }
+      go true e = finished_same did.0.stands freed e
+      go false e = absurd (omega (arith, written_some (changed_of e), work-written, none))
 
-      go : (q : Bool) → unchanged v freed ≡ q
-          → let l : FinishLent = record { tables = record { pages = v.page_table; entries = v.entry_table }; room = record { buffer = buffer; numbers = numbers } } in
-          l ≡ stored l (finished s v freed)
-      go true e =
-          rw (finished_same did.0.stands freed e, filled v.page_table v.P did.0.stands.pages_fit, filled v.entry_table v.L did.0.stands.entries_fit)
-      go false e = absurd (omega (arith, written_some (changed_of e), work-written))
+  filled : (l : List ℕ) (n : ℕ) → n ≤ length l → sets l 0 (take n l) ≡ l
+  filled l n h = ap (sets l 0) (sym (append-nil (take n l))) ∙ sets-kept l n [] h
+
+  pub same-tables : work.written ≡ 0 → tables_of v ≡ list_in (tables_of v) (finished s v freed).list
+  same-tables none = rw (same none, filled v.page_table v.P did.0.stands.pages_fit, filled v.entry_table v.L did.0.stands.entries_fit)
+
+  pub same-buffer : work.written ≡ 0 → buffer ≡ with_pages buffer (finished s v freed)
+  unfolding bytes_of_pages
+  same-buffer none = rw (same none)
+
+  pub same-numbers : work.written ≡ 0 → numbers ≡ with_numbers numbers (finished s v freed)
+  same-numbers none = rw (same none)

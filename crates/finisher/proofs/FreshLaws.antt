@@ -4,16 +4,18 @@ use Prim.Native.Nat.{ℕ, suc, ◌*◌, ◌-◌, ◌<◌, ◌≤◌}
 use native.Mathlib.Nat.{mul-le-mul_left}
 use native.Mathlib.Decide.{ℕ_discrete}
 use native.Mathlib.Omega.{arith}
-use mathlib.Core.Path.{◌≡◌, refl}
+use mathlib.Core.Path.{◌≡◌, refl, sym, ◌∙◌}
 use mathlib.Core.Logic.{◌⊎◌, inl, inr}
 use mathlib.Core.Bool.{true}
 use mathlib.Core.List.Memᴰ
 use mathlib.Core.List.{List, [], ◌∷◌, ◌++◌, Memᴰ}
-use lib.ListN.{length, get_or}
+use lib.ListN.{length, get_or, take}
+use lib.Seq.{length-take-le, get_or-take}
 use Rattle.laws.proofs.PlacesLaws.{get_d-mem}
 use Rattle.free_list.specs.Shape.{FreeList, is_shape}
 use Rattle.preallocate.specs.Plan.{Plan, pages_after, pushed_after, emptied, swap_top, take_entry, take_last, take_bump, plan_of}
 use Rattle.preallocate.proofs.CasesLaws.{Bounded, FirstCases, TurnCases, plan_run}
+use Rattle.finisher.specs.Finish.{left_list}
 use Rattle.finisher.proofs.PushLaws.{plan-pushes}
 
 -- n stands among these at a place from `from` on, and before `to`
@@ -22,6 +24,10 @@ Between ns from to n = (i : ℕ) × (from ≤ i) × (i < to) × (n ≡ get_or ns
 
 pub between_mem : (ns : List ℕ) (from to n : ℕ) → to ≤ length ns → Between ns from to n → Memᴰ n ns
 between_mem ns from to n h (i, f, t, e) = Memᴰ.cast e (get_d-mem ns i (omega arith))
+
+-- so it stands among the first `to`
+pub between_first : (ns : List ℕ) (from to n : ℕ) → to ≤ length ns → Between ns from to n → Memᴰ n (take to ns)
+between_first ns from to n h (i, f, t, e) = Memᴰ.cast (e ∙ sym (get_or-take to ns i 0 t)) (get_d-mem (take to ns) i (omega (arith, length-take-le to ns h)))
 
 -- n was popped for a list page, or is one of the bumps taken for them
 abbrev pub Taken : FreeList → ℕ → ℕ → Plan → ℕ → Type 0
@@ -139,24 +145,24 @@ module _ (c : ℕ) (l : FreeList) (k : ℕ) (freed : List ℕ) (bump : ℕ) (pos
   pub plan_fresh : Fresh c l k bump plan
   plan_fresh = (plan_run c l k freed bump (Fresh c l k bump) pos shape (fresh_first c l k bump freed) (fresh_turns c l k bump pos freed)).1
 
-  -- Every new page is an entry of the list, or not below the bump.
-  pub new_pages_lem : (n : ℕ) → Memᴰ n plan.fresh → Memᴰ n l.entries ⊎ (bump ≤ n)
+  -- Every new page is an entry that was not handed out, or not below the bump.
+  pub new_pages_lem : (n : ℕ) → Memᴰ n plan.fresh → Memᴰ n (left_list k l).entries ⊎ (bump ≤ n)
   new_pages_lem n m = go (plan_fresh.news n m)
     where
-      go : Taken l k bump plan n → Memᴰ n l.entries ⊎ (bump ≤ n)
-      go (inl x) = inl (between_mem l.entries _ (length l.entries - k) n (omega arith) x)
+      go : Taken l k bump plan n → Memᴰ n (left_list k l).entries ⊎ (bump ≤ n)
+      go (inl x) = inl (between_first l.entries _ (length l.entries - k) n (omega arith) x)
       go (inr x) = inr x.0
 
-  -- The top page has an entry for its number; or it is whole and keeps its own.
+  -- The top page has such an entry for its number; or it is whole and keeps its own.
   pub top_page : 1 ≤ plan.kept
-      → Memᴰ plan.top l.entries
+      → Memᴰ plan.top (left_list k l).entries
       ⊎ ((plan.left ≡ c * plan.kept)
       × (plan.top ≡ get_or l.pages (plan.kept - 1) 0))
   top_page one = go (ℕ_discrete plan.left (c * plan.kept))
     where
       go : Dec (plan.left ≡ c * plan.kept)
-          → Memᴰ plan.top l.entries
+          → Memᴰ plan.top (left_list k l).entries
           ⊎ ((plan.left ≡ c * plan.kept)
           × (plan.top ≡ get_or l.pages (plan.kept - 1) 0))
       go (yes e) = inr (e, (plan-pushes c l k freed bump pos shape).whole_top one e)
-      go (no ne) = inl (between_mem l.entries _ (length l.entries - k) _ (omega arith) (plan_fresh.top ne))
+      go (no ne) = inl (between_first l.entries _ (length l.entries - k) _ (omega arith) (plan_fresh.top ne))

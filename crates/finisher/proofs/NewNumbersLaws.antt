@@ -13,10 +13,19 @@ use Rattle.free_list.specs.Shape.{FreeList, is_shape}
 use Rattle.preallocate.specs.Plan.{Plan, plan_of}
 use Rattle.preallocate.proofs.CasesLaws.{mends}
 use Rattle.preallocate.proofs.PlanLaws.{plan_bump}
-use Rattle.finisher.specs.Finish.{new_list}
-use Rattle.finisher.specs.Theorems.{DistinctBelow}
+use Rattle.finisher.specs.Finish.{new_list, left_list}
 use Rattle.finisher.proofs.PushLaws.{plan-pushes}
 use Rattle.finisher.proofs.CountLaws.{count-push_list, conserved}
+
+-- What new pages need of what is left of a list, and of the bump after the numbers handed out; a finish that answers has seen it.
+-- `once`: no number stands in it twice, as a page or as an entry; else a new page could be written over a page that is kept.
+-- `pages_under`, `entries_under`: all are below that bump; else a page taken past it could be written over one that is kept.
+-- `bump_some`: that bump is not 0, which as a page's number would end the list.
+pub record DistinctBelow (l : FreeList) (bump : ℕ) : Type 0 where
+  pub once : (x : ℕ) → count x l.pages + count x l.entries ≤ 1
+  pub pages_under : (x : ℕ) → Memᴰ x l.pages → x < bump
+  pub entries_under : (x : ℕ) → Memᴰ x l.entries → x < bump
+  pub bump_some : 1 ≤ bump
 
 module _ (c : ℕ) (l : FreeList) (k : ℕ) (freed : List ℕ) (bump : ℕ) (two : 2 ≤ c)
     (shape : is_shape c (length l.pages) (length l.entries) ≡ true) where
@@ -39,9 +48,9 @@ module _ (c : ℕ) (l : FreeList) (k : ℕ) (freed : List ℕ) (bump : ℕ) (two
   unfolding new_list
   count_new_entries x = count-append x (take plan.left l.entries) plan.pushed
 
-  -- a page of the new list was a page or an entry of the old one, or is taken past the bump
-  pub count_new_pages : (x : ℕ) → count x (new_list l plan).pages ≤ count x l.pages + count x l.entries + count x (numbers_from bump (plan.bump - bump))
-  count_new_pages x = omega (arith, conserved c (omega arith) l k freed bump shape x, count_new_entries x, count_pushed x)
+  -- a page of the new list was a page of the old one or an entry that was not handed out, or is taken past the bump
+  pub count_new_pages : (x : ℕ) → count x (new_list l plan).pages ≤ count x l.pages + count x (left_list k l).entries + count x (numbers_from bump (plan.bump - bump))
+  count_new_pages x = omega (arith, conserved c (omega arith) l k freed bump shape x, count_new_entries x, count_pushed x, count_split x (length l.entries - k) l.entries)
 
   -- An entry of the new list was an entry or a page of the old one, or was freed.
   pub new_entry : (x : ℕ) → Memᴰ x (new_list l plan).entries → Memᴰ x l.entries ⊎ (Memᴰ x l.pages ⊎ Memᴰ x freed)
@@ -53,14 +62,17 @@ module _ (c : ℕ) (l : FreeList) (k : ℕ) (freed : List ℕ) (bump : ℕ) (two
       go (no n) (no o) =
           inr (inr (count-mem x freed (omega (arith, mem-count x (new_list l plan).entries m, count_new_entries x, count_pushed x, count_split x plan.left l.entries))))
 
-  module _ (distinct : DistinctBelow l bump) where
-    -- where x is not below the bump, it is not in the old list
-    none_past : (x : ℕ) → bump ≤ x → count x l.pages + count x l.entries ≡ 0
-    none_past x h = go (dec_lt 0 (count x l.pages)) (dec_lt 0 (count x l.entries))
+  module _ (distinct : DistinctBelow (left_list k l) bump) where
+    abbrev left : List ℕ
+    left = (left_list k l).entries
+
+    -- where x is not below the bump, it is not in what is left of the list
+    none_past : (x : ℕ) → bump ≤ x → count x l.pages + count x left ≡ 0
+    none_past x h = go (dec_lt 0 (count x l.pages)) (dec_lt 0 (count x left))
       where
-        go : Dec (0 < count x l.pages) → Dec (0 < count x l.entries) → count x l.pages + count x l.entries ≡ 0
+        go : Dec (0 < count x l.pages) → Dec (0 < count x left) → count x l.pages + count x left ≡ 0
         go (yes y) d = absurd (omega (arith, distinct.pages_under x (count-mem x l.pages (omega arith))))
-        go (no n) (yes y) = absurd (omega (arith, distinct.entries_under x (count-mem x l.entries (omega arith))))
+        go (no n) (yes y) = absurd (omega (arith, distinct.entries_under x (count-mem x left (omega arith))))
         go (no n) (no o) = omega arith
 
     -- The pages of the new list are different.
@@ -87,7 +99,7 @@ module _ (c : ℕ) (l : FreeList) (k : ℕ) (freed : List ℕ) (bump : ℕ) (two
     -- None is 0, where none of the old list is.
     pub pages-some : count 0 l.pages + count 0 l.entries ≡ 0 → (x : ℕ) → Memᴰ x (new_list l plan).pages → 1 ≤ x
     pages-some none zero m =
-        absurd (omega (arith, mem-count 0 (new_list l plan).pages m, count_new_pages 0, count-before 0 bump (plan.bump - bump) distinct.bump_some))
+        absurd (omega (arith, mem-count 0 (new_list l plan).pages m, count_new_pages 0, count_split 0 (length l.entries - k) l.entries, count-before 0 bump (plan.bump - bump) distinct.bump_some))
     pages-some none (suc x) m = omega arith
 
     -- No two pages of the new list have one number.

@@ -1,21 +1,18 @@
 -- The list that a finish makes reads back from the store that its pages were written to.
-use Prim.Native.Nat.{ℕ, suc, ◌+◌, ◌*◌, ◌-◌, ◌^◌, min, ◌<◌, ◌≤◌}
+use Prim.Native.Nat.{ℕ, ◌+◌, ◌-◌, ◌^◌, min, ◌<◌, ◌≤◌}
 use native.Mathlib.Decide.{dec_lt}
 use native.Mathlib.Omega.{arith}
 use mathlib.Core.Path.{◌≡◌, refl, ap, sym, ◌∙◌, subst}
 use mathlib.Core.Logic.{◌⊎◌, inl, inr, ◌≢◌}
-use mathlib.Core.Bool.{Bool, true, false, ◌&&◌}
-use mathlib.Core.List.Memᴰ
-use mathlib.Core.List.{List, [], ◌∷◌, Memᴰ}
-use lib.Dec.{leb, ltb, eqb}
+use mathlib.Core.Bool.{true, false, ◌&&◌}
+use mathlib.Core.List.{List, [], Memᴰ}
+use lib.Dec.{eqb}
 use lib.ListN.{length, get_or}
-use borrow.Author.Tests.{leb-true, ltb-true, eqb-true}
 use Rattle.laws.specs.Counting.{count}
-use Rattle.laws.proofs.Tests.{cond_cases, and-true}
+use Rattle.laws.proofs.Tests.{cond_cases}
 use Rattle.laws.proofs.PlacesLaws.{get_d-mem, at_places}
-use Rattle.laws.proofs.CountLaws.{count-mem, no_more}
+use Rattle.laws.proofs.CountLaws.{count-mem, no_more, different_once, once_all_different}
 use Rattle.refusal.specs.Outcome.{answer}
-use Rattle.refusal.proofs.OutcomeLaws.{unanswer, check_answer}
 use Rattle.page.specs.PageSize.{IsPageSize, capacity}
 use Rattle.page.specs.Pages.{page_count, page_at, write_pages}
 use Rattle.page.specs.Growth.{max_bump}
@@ -24,23 +21,27 @@ use Rattle.page.proofs.PagesLaws.{page_within_lem, page_count_mono, page_count_f
 use Rattle.free_list.specs.ListPages.{prev_of, entries_of}
 use Rattle.free_list.specs.Shape.{FreeList, is_shape, entries_on, head_of, previous}
 use Rattle.free_list.specs.StoredList.{Inside, StoredList}
-use Rattle.free_list.specs.Reading.{read_list}
+use Rattle.free_list.specs.Reading.{numbers_of, list_from}
+use Rattle.free_list.proofs.RepeatsLaws.{read_chained, read_differing}
 use Rattle.free_list.proofs.StoredLaws.{read_stored}
 use Rattle.free_list.proofs.ReadListLaws.{stored-read, head_read}
 use Rattle.preallocate.specs.Plan.{Plan, plan_of}
 use Rattle.preallocate.proofs.PlanLaws.{plan_kept}
-use Rattle.allocator.specs.OpenSave.{list_of, bumped, state_fits}
-use Rattle.finisher.specs.Finish.{new_list, encoded_page, carried_out, Finished, finish_list, first_bad, finished, finish}
-use Rattle.finisher.specs.Theorems.{DistinctBelow, FinishReadsBack}
+use Rattle.allocator.specs.OpenSave.{list_of, bumped}
+use Rattle.finisher.specs.Finish.{new_list, encoded_page, carried_out, Finished, finish_list, left_list, finished}
+use Rattle.finisher.specs.Theorems.{FinishReadsBack}
+use Rattle.finisher.proofs.FinishLaws.{Succeeds, succeeds}
+use Rattle.finisher.proofs.FinishedLaws.{left_distinct, finish_differs}
+use Rattle.finisher.proofs.TablesLaws.{good_freed}
 use Rattle.finisher.proofs.NewShapeLaws.{new_shape, length_pages_planned}
 use Rattle.finisher.proofs.KeptPageLaws.{SameKept, kept_below}
-use Rattle.finisher.proofs.NewNumbersLaws.{new_entry, pages-once, pages-below, pages-some, pages-differ}
+use Rattle.finisher.proofs.NewNumbersLaws.{DistinctBelow, new_entry, pages-once, pages-below, pages-some, pages-differ}
 use Rattle.finisher.proofs.EncodedLaws.{encoded_long, decoded-before, decoded-entries}
 use Rattle.finisher.proofs.WritingLaws.{page_inside, written_longer, written_other, written-found}
 
 -- ---- the new list
 
-module _ (s : ℕ) (size : IsPageSize s) (l : FreeList) (k : ℕ) (freed : List ℕ) (bump : ℕ) (store : List ℕ) (stored : StoredList s store l) (distinct : DistinctBelow l bump)
+module _ (s : ℕ) (size : IsPageSize s) (l : FreeList) (k : ℕ) (freed : List ℕ) (bump : ℕ) (store : List ℕ) (stored : StoredList s store l) (distinct : DistinctBelow (left_list k l) bump)
     (kL : k ≤ length l.entries) (changed : eqb k 0 && eqb (length freed) 0 ≡ false) (limit : (plan_of (capacity s) l k freed bump).bump ≤ 2 ^ 32 - 1) where
   abbrev made : Plan
   made = plan_of (capacity s) l k freed bump
@@ -177,74 +178,51 @@ module _ (s : ℕ) (size : IsPageSize s) (l : FreeList) (k : ℕ) (freed : List 
         let small = pages-below (capacity s) l k freed bump size.two_entries stored.shape distinct (get_or new.pages j 0) (get_d-mem new.pages j inside) in
         (f.0, page_inside s _ (get_or new.pages j 0) (omega (arith, page_least size)) f.1 (omega arith))
 
-    pub new-read : read_list s after (head_of new) ≡ answer new
+    pub new-read : list_from s after false (head_of new) ≡ answer new
     new-read = read_stored s after new size.two_entries (new-stored after grew freed-inside (λ j h. (ap prev_of (kept_same j h), ap entries_of (kept_same j h))) found)
 
 -- ---- what a finish makes reads back
 
-module _ (s : ℕ) (size : IsPageSize s) (l : FreeList) (store : List ℕ) (head : ℕ) (read : read_list s store head ≡ answer l)
-    (bump handed : ℕ) (freed : List ℕ) (distinct : DistinctBelow l bump) where
+module _ (s : ℕ) (size : IsPageSize s) (l : FreeList) (store : List ℕ) (head : ℕ) (read : list_from s store false head ≡ answer l)
+    (bump handed : ℕ) (freed : List ℕ) (distinct : DistinctBelow (left_list (min handed (length l.entries)) l) bump) where
   -- what a finish makes reads back from the store that its pages were written to
   abbrev ReadsBack : Finished → Type 0
   ReadsBack f =
       f.bump ≤ 2 ^ 32 - 1 → ((n : ℕ) → Memᴰ n freed → Inside (page_count s (write_pages s store f.written)) n)
-      → read_list s (write_pages s store f.written) (head_of f.list) ≡ answer f.list
+      → list_from s (write_pages s store f.written) false (head_of f.list) ≡ answer f.list
 
   reads_same : ReadsBack (record { list = l; bump = bump; written = [] })
   unfolding write_pages
-  reads_same limit inside = ap (read_list s store) (sym (head_read s store head l read)) ∙ read
+  reads_same limit inside = ap (list_from s store false) (sym (head_read s store head l read)) ∙ read
 
-  reads_changed : (k : ℕ) → k ≤ length l.entries → eqb k 0 && eqb (length freed) 0 ≡ false → ReadsBack (carried_out s l (plan_of (capacity s) l k freed bump))
+  reads_changed : (k : ℕ) → k ≡ min handed (length l.entries) → eqb k 0 && eqb (length freed) 0 ≡ false → ReadsBack (carried_out s l (plan_of (capacity s) l k freed bump))
   unfolding carried_out
-  reads_changed k kL changed limit inside = new-read s size l k freed bump store (stored-read s store head l read) distinct kL changed limit inside
+  reads_changed k e changed limit inside =
+      let kL : k ≤ length l.entries = omega arith in new-read s size l k freed bump store (stored-read s store head l read) (rw e distinct) kL changed limit inside
 
   -- After a list was read from a store, and the pages that its finish makes were written there, as encoded and each at its number, reading
-  -- from the new head gives the new list. Asked for are a list that is distinct; a bump that stays a page number, since no store has more
+  -- from the new head gives the new list. Asked for are a list of which what is left is distinct; a bump that stays a page number, since no store has more
   -- pages; and freed numbers that the store has pages for, since they become entries, and an entry past the store is refused.
   pub finish_reads : (finish_list s l bump handed freed).bump ≤ 2 ^ 32 - 1
       → ((n : ℕ) → Memᴰ n freed → Inside (page_count s (write_pages s store (finish_list s l bump handed freed).written)) n)
-      → read_list s (write_pages s store (finish_list s l bump handed freed).written) (head_of (finish_list s l bump handed freed).list) ≡ answer (finish_list s l bump handed freed).list
+      → list_from s (write_pages s store (finish_list s l bump handed freed).written) false (head_of (finish_list s l bump handed freed).list) ≡ answer (finish_list s l bump handed freed).list
   unfolding finish_list
   finish_reads =
       let k = min handed (length l.entries) in
-      cond_cases ReadsBack (eqb k 0 && eqb (length freed) 0) _ _ (λ _. reads_same) (reads_changed k (omega arith))
-
--- none of the freed numbers is bad
-pub good_freed : (limit : ℕ) (ns : List ℕ) → first_bad limit ns ≡ length ns → (n : ℕ) → Memᴰ n ns → (1 ≤ n) × (n < limit)
-unfolding first_bad
-good_freed limit [] e n m = absurd (Memᴰ.not-nil m)
-good_freed limit (x ∷ ns) e n m = go (leb 1 x && ltb x limit) refl (good_freed limit ns)
-  where
-    this : leb 1 x && ltb x limit ≡ true → (1 ≤ x) × (x < limit)
-    this t = let u = and-true (leb 1 x) (ltb x limit) t in (leb-true 1 x u.0, ltb-true x limit u.1)
-
-    at : leb 1 x && ltb x limit ≡ true → (n ≡ x) ⊎ Memᴰ n ns → (Memᴰ n ns → (1 ≤ n) × (n < limit)) → (1 ≤ n) × (n < limit)
-    at t (inl f) rest = rw f (this t)
-    at t (inr h) rest = rest h
-
-    go : (b : Bool) → leb 1 x && ltb x limit ≡ b → (first_bad limit ns ≡ length ns → (n : ℕ) → Memᴰ n ns → (1 ≤ n) × (n < limit)) → (1 ≤ n) × (n < limit)
-    go true t rest =
-        let more : suc (first_bad limit ns) ≡ suc (length ns) = rw t at e in
-        at t (Memᴰ.cases_cons m) (rest (omega arith) n)
-    go false t rest =
-        let none : 0 ≡ suc (length ns) = rw t at e in
-        absurd (omega arith)
+      cond_cases ReadsBack (eqb k 0 && eqb (length freed) 0) _ _ (λ _. reads_same) (reads_changed k refl)
 
 pub finished-reads : (s : ℕ) → IsPageSize s → FinishReadsBack s
-unfolding finish finished
-finished-reads s size v store head read distinct freed room f e inside =
-    let made = finished s v freed in
-    let c₁ = check_answer (state_fits s v) _ _ _ e in
-    let c₂ = check_answer (leb made.bump max_bump) _ _ _ c₁.1 in
-    let c₃ = check_answer (eqb (first_bad (bumped v) freed) (length freed)) _ _ _ c₂.1 in
-    let c₄ = check_answer (leb (length made.list.pages) (length v.page_table) && leb (length made.list.entries) (length v.entry_table)) _ _ _ c₃.1 in
-    let c₅ = check_answer (leb (s * length made.written) room.bytes && leb (length made.written) room.numbers) _ _ _ c₄.1 in
-    let is : made ≡ f = unanswer c₅.1 in
-    subst (λ (g : Finished). ((n : ℕ) → Memᴰ n freed → n < page_count s (write_pages s store g.written)) → read_list s (write_pages s store g.written) (head_of g.list) ≡ answer g.list) is
-    (made_reads (leb-true made.bump max_bump c₂.0) (eqb-true (first_bad (bumped v) freed) (length freed) c₃.0)) inside
+unfolding finished
+finished-reads s size v store head read freed room f e inside =
+    let done = (succeeds s v freed room f e).0 in
+    let differs = (finish_differs size v freed room f e).0 in
+    read_differing s (write_pages s store f.written) (head_of f.list)
+    (subst (λ (g : Finished). g.bump ≤ max_bump → ((n : ℕ) → Memᴰ n freed → n < page_count s (write_pages s store g.written)) → list_from s (write_pages s store g.written) false (head_of g.list) ≡ answer g.list) (sym done.is)
+    (λ limit within. finish_reads s size (list_of v) store head (read_chained s store head read) (bumped v) v.handed freed (distinct done) (omega (arith, limit)) (λ n m. ((good_freed (bumped v) freed done.good n m).0, within n m)))
+    done.limit inside)
+    (once_all_different (numbers_of f.list) (different_once (numbers_of f.list) differs))
   where
-    made_reads : (finished s v freed).bump ≤ max_bump → first_bad (bumped v) freed ≡ length freed
-        → ((n : ℕ) → Memᴰ n freed → n < page_count s (write_pages s store (finished s v freed).written))
-        → read_list s (write_pages s store (finished s v freed).written) (head_of (finished s v freed).list) ≡ answer (finished s v freed).list
-    made_reads limit good inside =
-        finish_reads s size (list_of v) store head read (bumped v) v.handed freed distinct (omega arith) (λ n m. ((good_freed (bumped v) freed good n m).0, inside n m))
+    distinct : Succeeds s v freed f → DistinctBelow (left_list (min v.handed (length (list_of v).entries)) (list_of v)) (bumped v)
+    distinct done =
+        let same : length (list_of v).entries - min v.handed (length (list_of v).entries) ≡ length (list_of v).entries - v.handed = omega arith in
+        rw same (left_distinct done)

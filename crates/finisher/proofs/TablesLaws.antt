@@ -5,15 +5,17 @@ use native.Mathlib.Numerals.{add-one}
 use native.Mathlib.Omega.{arith}
 use mathlib.Core.Path.{◌≡◌, refl, ap, sym, ◌∙◌}
 use mathlib.Core.Bool.{Bool, true, false, ◌&&◌, ◌||◌, cond}
-use mathlib.Core.List.{List, [], ◌∷◌, reverse}
+use mathlib.Core.Logic.{◌⊎◌, inl, inr}
+use mathlib.Core.List.Memᴰ
+use mathlib.Core.List.{List, [], ◌∷◌, reverse, Memᴰ}
 use lib.Dec.{leb, ltb, eqb}
 use lib.ListN.{length, get_or, take, drop, set, length-reverse}
 use borrow.Rule.Slice.PartMut.{put_mid}
 use lib.Seq.{sets, length-sets}
 use Rattle.std.specs.Prelude.{Option, Some, None}
 use Rattle.std.specs.List.{position_or_len, swap}
-use borrow.Author.Tests.{ltb-true, ltb-false}
-use Rattle.laws.proofs.Tests.{cond_cases}
+use borrow.Author.Tests.{leb-true, ltb-true, ltb-false}
+use Rattle.laws.proofs.Tests.{cond_cases, and-true}
 use Rattle.std.proofs.lemmas.List.Edits.{swap_is}
 use Rattle.std.proofs.lemmas.Bool.Decides.{nat_tests}
 use Rattle.std.proofs.lemmas.List.Recursion.{is_position_or_len}
@@ -56,6 +58,27 @@ module _ (limit : ℕ) (ns : List ℕ) where
       go : (b : Bool) → ltb found (length ns) ≡ b → cond b (Some found) None ≡ None → first_bad limit ns ≡ length ns
       go true t g = let never : ⊥ = cc in absurd never
       go false t g = omega (arith, bad_found limit ns, ltb-false found (length ns) t, bad_within limit ns)
+
+-- none of the freed numbers is bad
+pub good_freed : (limit : ℕ) (ns : List ℕ) → first_bad limit ns ≡ length ns → (n : ℕ) → Memᴰ n ns → (1 ≤ n) × (n < limit)
+unfolding first_bad
+good_freed limit [] e n m = absurd (Memᴰ.not-nil m)
+good_freed limit (x ∷ ns) e n m = go (leb 1 x && ltb x limit) refl (good_freed limit ns)
+  where
+    this : leb 1 x && ltb x limit ≡ true → (1 ≤ x) × (x < limit)
+    this t = let u = and-true (leb 1 x) (ltb x limit) t in (leb-true 1 x u.0, ltb-true x limit u.1)
+
+    at : leb 1 x && ltb x limit ≡ true → (n ≡ x) ⊎ Memᴰ n ns → (Memᴰ n ns → (1 ≤ n) × (n < limit)) → (1 ≤ n) × (n < limit)
+    at t (inl f) rest = rw f (this t)
+    at t (inr h) rest = rest h
+
+    go : (b : Bool) → leb 1 x && ltb x limit ≡ b → (first_bad limit ns ≡ length ns → (n : ℕ) → Memᴰ n ns → (1 ≤ n) × (n < limit)) → (1 ≤ n) × (n < limit)
+    go true t rest =
+        let more : suc (first_bad limit ns) ≡ suc (length ns) = rw t at e in
+        at t (Memᴰ.cases_cons m) (rest (omega arith) n)
+    go false t rest =
+        let none : 0 ≡ suc (length ns) = rw t at e in
+        absurd (omega arith)
 
 -- ---- the pages, from the last to the first
 

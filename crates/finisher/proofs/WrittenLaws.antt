@@ -16,22 +16,22 @@ use Rattle.page.specs.PageSize.{capacity}
 use Rattle.laws.proofs.PlacesLaws.{get_d-mem}
 use Rattle.free_list.specs.Shape.{FreeList, is_shape}
 use Rattle.preallocate.specs.Plan.{Plan, plan_of}
-use Rattle.finisher.specs.Finish.{new_list}
+use Rattle.finisher.specs.Finish.{new_list, left_list}
 use Rattle.finisher.proofs.FreshLaws.{new_pages_lem, top_page}
 use Rattle.finisher.proofs.NewListLaws.{length_new_pages}
 use Rattle.finisher.proofs.KeptPageLaws.{SameKept, number_top, plan_keeps, kept_top}
 use Rattle.laws.proofs.CountLaws.{mem-count}
-use Rattle.finisher.specs.Theorems.{DistinctBelow}
+use Rattle.finisher.proofs.NewNumbersLaws.{DistinctBelow}
 
 module _ (s : ℕ) (l : FreeList) (k : ℕ) (freed : List ℕ) (bump : ℕ) (two : 2 ≤ capacity s)
     (shape : is_shape (capacity s) (length l.pages) (length l.entries) ≡ true)
-    (kL : k ≤ length l.entries) (changed : eqb k 0 && eqb (length freed) 0 ≡ false) (distinct : DistinctBelow l bump) where
+    (kL : k ≤ length l.entries) (changed : eqb k 0 && eqb (length freed) 0 ≡ false) (distinct : DistinctBelow (left_list k l) bump) where
   abbrev t : Plan
   t = plan_of (capacity s) l k freed bump
 
-  -- no list page is an entry, or lies past the bump
-  apart : (n : ℕ) → Memᴰ n l.pages → Memᴰ n l.entries → ⊥
-  apart n p e = omega (arith, distinct.once n, mem-count n l.pages p, mem-count n l.entries e)
+  -- no list page is an entry that was not handed out, or lies past the bump
+  apart : (n : ℕ) → Memᴰ n l.pages → Memᴰ n (left_list k l).entries → ⊥
+  apart n p e = omega (arith, distinct.once n, mem-count n l.pages p, mem-count n (left_list k l).entries e)
 
   under : (n : ℕ) → Memᴰ n l.pages → bump ≤ n → ⊥
   under n p h = omega (arith, distinct.pages_under n p)
@@ -55,7 +55,7 @@ module _ (s : ℕ) (l : FreeList) (k : ℕ) (freed : List ℕ) (bump : ℕ) (two
       → (j + 1 ≡ t.kept) × SameKept s l t j
   written_old j h below m = go (ℕ_discrete (j + 1) t.kept)
     where
-      top : (j + 1 ≡ t.kept) → Memᴰ t.top l.entries ⊎ ((t.left ≡ capacity s * t.kept) × (t.top ≡ get_or l.pages (t.kept - 1) 0))
+      top : (j + 1 ≡ t.kept) → Memᴰ t.top (left_list k l).entries ⊎ ((t.left ≡ capacity s * t.kept) × (t.top ≡ get_or l.pages (t.kept - 1) 0))
           → (j + 1 ≡ t.kept) × SameKept s l t j
       top e (inl x) =
           absurd (apart t.top (subst (λ (n : ℕ). Memᴰ n l.pages) (number_top (plan_keeps (capacity s) l k freed bump two shape kL changed) j e) m) x)
@@ -63,7 +63,7 @@ module _ (s : ℕ) (l : FreeList) (k : ℕ) (freed : List ℕ) (bump : ℕ) (two
           let same : t.kept - 1 ≡ j = omega arith in
           (e, subst (SameKept s l t) same (kept_top s l k freed bump two shape kL changed (omega arith) x.0))
 
-      new : (n : ℕ) → Memᴰ n l.pages → Memᴰ n l.entries ⊎ (bump ≤ n) → (j + 1 ≡ t.kept) × SameKept s l t j
+      new : (n : ℕ) → Memᴰ n l.pages → Memᴰ n (left_list k l).entries ⊎ (bump ≤ n) → (j + 1 ≡ t.kept) × SameKept s l t j
       new n p (inl x) = absurd (apart n p x)
       new n p (inr x) = absurd (under n p x)
 

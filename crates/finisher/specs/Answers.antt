@@ -16,11 +16,11 @@ abbrev pub save_with : SaveStruct → ListTables → Save
 save_with v t = save_of v.start v.«open» t.pages t.entries
 
 -- what is lent to a finish, before the call and after it
-abbrev pub lent_before : LentTables → LentMut → LentMut → FinishLent
-lent_before t buffer numbers = record { tables = tables_before t; room = finish_room before buffer numbers }
+abbrev pub lent_before : LentTables → LentMut → LentMut → LentMut → FinishLent
+lent_before t buffer numbers map = record { tables = tables_before t; room = finish_room before buffer numbers map }
 
-abbrev pub lent_after : LentTables → LentMut → LentMut → FinishLent
-lent_after t buffer numbers = record { tables = tables_after t; room = finish_room after buffer numbers }
+abbrev pub lent_after : LentTables → LentMut → LentMut → LentMut → FinishLent
+lent_after t buffer numbers map = record { tables = tables_after t; room = finish_room after buffer numbers map }
 
 abbrev pub meta_answer : StoreMeta → FinishAnswer
 meta_answer m = record { head = m.head.0; bump = m.bump; recorded = m.length; P = m.pages; L = m.entries; count = m.written }

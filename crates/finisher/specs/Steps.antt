@@ -3,7 +3,9 @@ use Rattle.std.specs.Prelude.{ℕ, ◌+◌, ◌-◌, min, ◌≤◌, ◌≡◌, 
 use Rattle.std.proofs.lemmas.List.Edits.{sets}
 use Rattle.refusal.specs.Outcome.{Outcome, answer, with_answer}
 use Rattle.refusal.specs.Refusals.{outcome}
+use Rattle.refusal.specs.Effect.{Effect, effect, go_on}
 use Rattle.refusal.specs.declared.Refusal.{Refusal}
+use Rattle.bit_map.specs.BitMap.{cleared}
 use Rattle.page.specs.PageSize.{IsPageSize, capacity}
 use Rattle.page.specs.Growth.{max_bump, grown}
 use Rattle.free_list.specs.Reading.{ListTables}
@@ -12,10 +14,8 @@ use Rattle.preallocate.specs.Plan.{Plan, plan_of}
 use Rattle.preallocate.specs.Counts.{counts}
 use Rattle.preallocate.specs.declared.turns.Plan.{Plan as Counts}
 use Rattle.allocator.specs.OpenSave.{Save, list_of, bumped, state_fits}
-use Rattle.allocator.specs.declared.save.Save.{Save as SaveStruct}
 use Rattle.allocator.specs.declared.save.Start.{Start}
-use Rattle.finisher.specs.Answers.{save_with}
-use Rattle.finisher.specs.Finish.{Finished, FinishAnswer, RoomLent, room_in, FinishLent, encoded_pages, finished, finish, bytes_of_pages, stored}
+use Rattle.finisher.specs.Finish.{Finished, FinishAnswer, RoomLent, encoded_pages, finished, admitted, fitted, finish, bytes_of_pages}
 use Rattle.finisher.specs.declared.judge.Work.{Work}
 use Rattle.finisher.specs.declared.judge.Room.{Room}
 
@@ -69,9 +69,9 @@ pub record Begun (s : ℕ) (v : Save) (pops bump : ℕ) : Type 0 where
   pub bump_is : bump ≡ bumped v
   pub limit : bump ≤ max_bump
 
--- the code's room, as the definitions have it
-abbrev pub room_of : Room → RoomLent
-room_of room = record { bytes = room.bytes; numbers = room.numbers }
+-- the code's room, as the definitions have it, with a map of so many bytes
+abbrev pub room_of : Room → ℕ → RoomLent
+room_of room map = record { bytes = room.bytes; numbers = room.numbers; map = map }
 
 -- what the code has judged, as an outcome; it is the finish's, of which the work is told
 abbrev pub judged_outcome : Result Work Refusal → Outcome Work
@@ -81,13 +81,24 @@ judged_outcome = outcome (λ work. work)
 abbrev pub bad_place : ℕ → List ℕ → Option ℕ
 bad_place limit = position (λ n. eqb n 0 || leb limit n)
 
-abbrev pub judged : ℕ → Save → List ℕ → RoomLent → Outcome Work
-judged s v freed room = with_answer (λ (f : Finished). answer (work_of s v freed)) (finish s v freed room)
+abbrev pub work_told : ℕ → Save → List ℕ → Outcome Finished → Outcome Work
+work_told s v freed = with_answer (λ (f : Finished). answer (work_of s v freed))
 
--- a finish that answers, with this buffer and this number list lent, and its work
+-- with the map, which is written once its room was judged
+abbrev pub judged : ℕ → Save → List ℕ → Room → List ℕ → Effect Work (List ℕ)
+judged s v freed room map =
+    go_on map (λ f. effect (work_told s v freed (fitted s v freed (room_of room (length map)) f)) (cleared (bumped v) map)) (admitted s v freed (length map))
+
+-- a save whose finish is admitted, with a map of so many bytes, and its work
+pub record Admitted (s : ℕ) (v : Save) (freed : List ℕ) (work : Work) (map : ℕ) : Type 0 where
+  pub admits : admitted s v freed map ≡ answer (finished s v freed)
+  pub is : work ≡ work_of s v freed
+
+-- a finish that answers, with this buffer, this number list and a map lent, and its work
 pub record Goes (s : ℕ) (v : Save) (freed : List ℕ) (work : Work) (buffer numbers : List ℕ) : Type 0 where
   pub size : IsPageSize s
-  pub answers : finish s v freed (room_in (record { buffer = buffer; numbers = numbers })) ≡ answer (finished s v freed)
+  pub map : ℕ
+  pub answers : finish s v freed (record { bytes = length buffer; numbers = length numbers; map = map }) ≡ answer (finished s v freed)
   pub is : work ≡ work_of s v freed
 
 -- a save that stands, and changes the list
@@ -162,7 +173,3 @@ abbrev pub new_tables : ℕ → Save → List ℕ → ListTables
 new_tables s v freed =
     let f = finished s v freed in
     record { pages = sets v.page_table 0 f.list.pages; entries = sets v.entry_table 0 f.list.entries }
-
--- all that was lent, with what the finish of a save makes
-abbrev pub carried : ℕ → SaveStruct → List ℕ → FinishLent → FinishLent
-carried s v freed l = stored l (finished s (save_with v l.tables) freed)

@@ -1,12 +1,12 @@
 -- What is shown of finished saves.
 use Rattle.std.specs.Prelude.{ℕ, ◌+◌, ◌-◌, min, ◌<◌, ◌≤◌, ◌≡◌, true, false, ◌&&◌, eqb, length, drop}
 use mathlib.Core.List.{List, Memᴰ}
-use Rattle.laws.specs.Counting.{count, numbers_from}
+use Rattle.laws.specs.Counting.{count, numbers_from, Different}
 use Rattle.refusal.specs.Outcome.{answer}
 use Rattle.page.specs.PageSize.{capacity}
 use Rattle.page.specs.Pages.{page_count, write_pages}
 use Rattle.free_list.specs.Shape.{FreeList, is_shape, head_of}
-use Rattle.free_list.specs.Reading.{read_list}
+use Rattle.free_list.specs.Reading.{numbers_of, read_list}
 use Rattle.preallocate.specs.Plan.{plan_of}
 use Rattle.allocator.specs.OpenSave.{Save, list_of, bumped}
 use Rattle.finisher.specs.Finish.{new_list, Finished, RoomLent, finish}
@@ -37,21 +37,16 @@ FinishConserves s = (v : Save) (freed : List ℕ) (room : RoomLent) (f : Finishe
     → count x f.list.pages + count x f.list.entries + count x (drop (v.L - min v.handed v.L) (list_of v).entries)
     ≡ count x (list_of v).pages + count x (list_of v).entries + count x freed + count x (numbers_from (bumped v) (f.bump - bumped v))
 
--- What is asked of the list that a finish starts from, and of its bump. That the list was read tells only that its pages differ.
--- `once`: each number stands in it once, as a page or as an entry; else a new page could be written over a page that is kept.
--- `pages_under`, `entries_under`: all are below the bump; else a page taken past the bump could be written over one that is kept.
--- `bump_some`: the bump is not 0, which as a page's number would end the list.
-pub record DistinctBelow (l : FreeList) (bump : ℕ) : Type 0 where
-  pub once : (x : ℕ) → count x l.pages + count x l.entries ≤ 1
-  pub pages_under : (x : ℕ) → Memᴰ x l.pages → x < bump
-  pub entries_under : (x : ℕ) → Memᴰ x l.entries → x < bump
-  pub bump_some : 1 ≤ bump
+-- The numbers of the list that it makes, of pages and entries, all differ and lie below its bump.
+abbrev pub FinishDiffers : ℕ → Type 0
+FinishDiffers s = (v : Save) (freed : List ℕ) (room : RoomLent) (f : Finished) → finish s v freed room ≡ answer f
+    → Different (numbers_of f.list) × ((x : ℕ) → Memᴰ x (numbers_of f.list) → x < f.bump)
 
 -- A list was read from a store, and a save of it was finished: from the store that the pages were written to, reading from the new head
--- gives the new list. Asked for is such a list, and a store that has pages for the freed numbers once the pages are written; it is grown
--- to the recorded length before.
+-- gives the new list. Asked for is a store that has pages for the freed numbers once the pages are written, as one that is grown to the
+-- recorded length has.
 abbrev pub FinishReadsBack : ℕ → Type 0
-FinishReadsBack s = (v : Save) (store : List ℕ) (head : ℕ) → read_list s store head ≡ answer (list_of v) → DistinctBelow (list_of v) (bumped v)
+FinishReadsBack s = (v : Save) (store : List ℕ) (head : ℕ) → read_list s store head ≡ answer (list_of v)
     → (freed : List ℕ) (room : RoomLent) (f : Finished) → finish s v freed room ≡ answer f
     → ((n : ℕ) → Memᴰ n freed → n < page_count s (write_pages s store f.written))
     → read_list s (write_pages s store f.written) (head_of f.list) ≡ answer f.list

@@ -4,9 +4,10 @@
 // the work, which is numbers alone and goes by value.
 ghost use Rattle.std.specs.Prelude.{◌≡◌};
 ghost use Rattle.std.proofs.lemmas.List.Edits.{sets};
-ghost use Rattle.free_list.specs.Reading.{tables_now, tables_before, tables_after};
-ghost use Rattle.finisher.specs.Answers.{save_with, lent_before, lent_after};
-ghost use Rattle.finisher.specs.Steps.{Goes, Doable, Numberable, Filled, plan_for, numbers_for, new_tables, carried};
+ghost use Rattle.free_list.specs.Reading.{tables_now, tables_before, tables_after, list_in};
+ghost use Rattle.finisher.specs.Answers.{save_with};
+ghost use Rattle.finisher.specs.Finish.{finished, with_pages, with_numbers};
+ghost use Rattle.finisher.specs.Steps.{Goes, Doable, Numberable, Filled, plan_for, numbers_for, new_tables};
 
 use crate::encode::encode_pages;
 use crate::judge::{Work, list_of};
@@ -29,7 +30,9 @@ pub(crate) fn carry_out(
     numbers: &mut [u32],
 )
     requires { Goes page_size (save_with save (tables_now tables)) freed.now work buffer.old numbers.old }
-    ensures { lent_after tables buffer numbers ≡ carried page_size save freed.now (lent_before tables buffer numbers) }
+    ensures tables { tables_after tables ≡ list_in (tables_before tables) (finished page_size (save_with save (tables_before tables)) freed.now).list }
+    ensures buffer { buffer.new ≡ with_pages buffer.old (finished page_size (save_with save (tables_before tables)) freed.now) }
+    ensures numbers { numbers.new ≡ with_numbers numbers.old (finished page_size (save_with save (tables_before tables)) freed.now) }
 {
     if work.written == 0 {
         return;

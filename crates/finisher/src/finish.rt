@@ -28,7 +28,8 @@ pub struct StoreMeta {
 }
 
 // Finishes the save. `freed` are the numbers freed; the tables then hold the new list, the first bytes of `buffer` the pages to be
-// written, and the first places of `numbers` their page numbers. A refusal leaves all four as they were.
+// written, and the first places of `numbers` their page numbers. A refusal leaves all four as they were. Once the map is known to have a bit
+// for each number below the bump, its bytes in use are zero whatever comes.
 pub fn finish(
     page_size: PageSize,
     save: Save,
@@ -36,8 +37,9 @@ pub fn finish(
     freed: &[u32],
     buffer: &mut [u8],
     numbers: &mut [u32],
+    map: &mut [u8],
 ) -> Result<StoreMeta, Refusal>
-    ensures { effect (finish_outcome result) (lent_after tables buffer numbers) ≡ finish_into page_size (save_with save (tables_before tables)) freed.now (finish_room before buffer numbers) }
+    ensures { effect (finish_outcome result) (lent_after tables buffer numbers map) ≡ finish_into page_size (save_with save (tables_before tables)) freed.now (finish_room before buffer numbers map) }
 {
     let Tables { pages, entries } = tables;
     let room = Room {
@@ -50,7 +52,7 @@ pub fn finish(
         pages: &*pages,
         entries: &*entries,
     };
-    let work = judge(&lent, freed, room)?;
+    let work = judge(&lent, freed, room, map)?;
     let written = Tables {
         pages: &mut *pages,
         entries,

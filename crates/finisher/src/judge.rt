@@ -1,11 +1,17 @@
 // What a finish comes to, in numbers: its work, or the refusal.
-ghost use Rattle.std.specs.Prelude.{◌≡◌, ◌&&◌, ◌*◌, ◌^◌, ◌≤◌, ◌<◌, ℕ, true, leb, eqb, length, get_or};
+ghost use Rattle.std.specs.Prelude.{◌≡◌, ◌&&◌, ◌*◌, ◌^◌, ◌++◌, ◌≤◌, ◌<◌, ℕ, true, leb, eqb, length, get_or};
+ghost use Rattle.laws.specs.Counting.{all_different, all_below};
+ghost use Rattle.refusal.specs.Effect.{effect};
+ghost use Rattle.bit_map.specs.BitMap.{cleared};
 ghost use Rattle.page.specs.PageSize.{IsPageSize};
-ghost use Rattle.allocator.specs.OpenSave.{state_fits, list_of};
-ghost use Rattle.finisher.specs.Steps.{work_of, same_work, judged_outcome, judged, Begun, room_of};
+ghost use Rattle.allocator.specs.OpenSave.{state_fits, list_of, bumped};
+ghost use Rattle.finisher.specs.Finish.{left_numbers, admitted};
+ghost use Rattle.finisher.specs.Steps.{work_of, same_work, judged_outcome, judged, work_told, Begun, Admitted};
 
 use crate::tables::first_bad;
 use allocator::save::{LentSave, Start};
+use bit_map::map::has_bits;
+use bit_map::marking::all_differ;
 use page::growth::MAX_BUMP;
 use preallocate::list::LentList;
 use preallocate::turns::Plan;
@@ -32,13 +38,36 @@ pub(crate) struct Room {
     pub(crate) numbers: usize,
 }
 
-// Judges a finish for which so much room is lent, in the order of the refusals. That the page size is one is told too, as callers see the save's
-// value alone.
-pub(crate) fn judge(lent: &LentSave, freed: &[u32], room: Room) -> Result<Work, Refusal>
-    ensures judged { judged_outcome result ≡ judged lent.now.page_size lent.now.save freed.now (room_of room) }
+// Judges a finish for which so much room and this map are lent, in the order of the refusals. That the page size is one is told too, as callers
+// see the save's value alone.
+pub(crate) fn judge(
+    lent: &LentSave,
+    freed: &[u32],
+    room: Room,
+    map: &mut [u8],
+) -> Result<Work, Refusal>
+    ensures judged { effect (judged_outcome result) map.new ≡ judged lent.now.page_size lent.now.save freed.now room map.old }
     ensures size { IsPageSize lent.now.page_size }
 {
     let size = lent.page_size.bytes();
+    let work = admit(lent, freed, map)?;
+    if !numbers_differ(lent, work, freed, map) {
+        return Err(Refusal::Repeat);
+    }
+    if !tables_fit(work, lent.pages.len(), lent.entries.len()) {
+        return Err(Refusal::Tables);
+    }
+    if !pages_fit(size, work.written, room) {
+        return Err(Refusal::Buffer);
+    }
+    Ok(work)
+}
+
+// What is judged before anything is written.
+fn admit(lent: &LentSave, freed: &[u32], map: &[u8]) -> Result<Work, Refusal>
+    requires { IsPageSize lent.now.page_size }
+    ensures { judged_outcome result ≡ work_told lent.now.page_size lent.now.save freed.now (admitted lent.now.page_size lent.now.save freed.now (length map.now)) }
+{
     if !lent.state_fits() {
         return Err(Refusal::State);
     }
@@ -57,13 +86,25 @@ pub(crate) fn judge(lent: &LentSave, freed: &[u32], room: Room) -> Result<Work, 
     if let Some(bad) = first_bad(freed, bump) {
         return Err(Refusal::Freed(bad));
     }
-    if !tables_fit(work, lent.pages.len(), lent.entries.len()) {
-        return Err(Refusal::Tables);
-    }
-    if !pages_fit(size, work.written, room) {
-        return Err(Refusal::Buffer);
+    if !has_bits(bump, map) {
+        return Err(Refusal::Map);
     }
     Ok(work)
+}
+
+// Whether the numbers that were not handed out lie below the bump, and with the freed ones all differ. No number is marked in the map
+// afterwards, whatever it held.
+fn numbers_differ(lent: &LentSave, work: Work, freed: &[u32], map: &mut [u8]) -> bool
+    requires { Admitted lent.now.page_size lent.now.save freed.now work (length map.old) }
+    ensures differ { result ≡ all_below (bumped lent.now.save) (left_numbers lent.now.save) && all_different (left_numbers lent.now.save ++ freed.now) }
+    ensures map { map.new ≡ cleared (bumped lent.now.save) map.old }
+{
+    let start = lent.save.start;
+    let pages = lent.pages;
+    let entries = lent.entries;
+    let listed = &pages[..start.pages];
+    let left = &entries[..start.entries - work.popped];
+    all_differ(work.bump, listed, left, freed, map)
 }
 
 // The list of a save that stands.

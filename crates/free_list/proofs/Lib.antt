@@ -2,6 +2,7 @@
 pub mod ListPagesLaws
 pub mod ReadingLaws
 pub mod RoundLaws
+pub mod RepeatsLaws
 pub mod FillingLaws
 pub mod IntoLaws
 pub mod ShapeLaws

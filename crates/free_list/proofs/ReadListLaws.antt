@@ -22,7 +22,7 @@ use Rattle.page.specs.Pages.{page_count, page_at}
 use Rattle.free_list.specs.ListPages.{prev_of, count_of, entries_of}
 use Rattle.free_list.specs.Shape.{FreeList, is_fragmented, entries_below, entries_on, head_of, previous}
 use Rattle.free_list.specs.StoredList.{StoredList}
-use Rattle.free_list.specs.Reading.{empty_list, on_top, count_fits, all_entries_fit, read_from, list_from, read_list}
+use Rattle.free_list.specs.Reading.{empty_list, on_top, count_fits, all_entries_fit, read_from, list_from}
 use Rattle.free_list.proofs.ListPagesLaws.{length-entries_of}
 use Rattle.free_list.proofs.ReadingLaws.{read_from_end, page_read, none_allowed, read_elim}
 use Rattle.free_list.proofs.ShapeLaws.{read_accepted}
@@ -236,7 +236,7 @@ module _ (s : ℕ) (store : List ℕ) where
       omega (arith, ap (λ (m : FreeList). length m.pages) r.whole, length-append r.below.pages (suc q ∷ []), read_few allowed _ _ _ r.below r.reads)
 
   -- A list that was read from a store is held by it, and its head is the page that it was read from.
-  module _ (head : ℕ) (l : FreeList) (read : read_list s store head ≡ answer l) where
+  module _ (head : ℕ) (l : FreeList) (read : list_from s store false head ≡ answer l) where
     chained : Chained s store (length l.pages) (length l.entries) head l
     unfolding list_from
     chained =

@@ -18,7 +18,7 @@ use Rattle.page.specs.Pages.{page_count, page_at}
 use Rattle.free_list.specs.ListPages.{count_of, entries_of}
 use Rattle.free_list.specs.Shape.{FreeList, is_shape}
 use Rattle.free_list.specs.StoredList.{Inside}
-use Rattle.free_list.specs.Reading.{count_fits, all_entries_fit, read_from, list_from, read_list}
+use Rattle.free_list.specs.Reading.{count_fits, all_entries_fit, read_from, list_from}
 use Rattle.free_list.proofs.ListPagesLaws.{length-entries_of}
 use Rattle.free_list.proofs.ReadingLaws.{read_elim}
 
@@ -174,7 +174,7 @@ unfolding is_shape
 counts_shape c P L (inl e) = rw (e.0, e.1)
 counts_shape c P L (inr h) = bounds_shape c P L h.0 h.1 h.2
 
-pub read_accepted : (s : ℕ) (store : List ℕ) (head : ℕ) (l : FreeList) → read_list s store head ≡ answer l → Accepted s store l
+pub read_accepted : (s : ℕ) (store : List ℕ) (head : ℕ) (l : FreeList) → list_from s store false head ≡ answer l → Accepted s store l
 unfolding list_from
 read_accepted s store head l e =
     let inside = read_inside s store false (page_count s store) 0 0 head l e in

@@ -16,7 +16,7 @@ use Rattle.page.specs.Pages.{page_count, page_at}
 use Rattle.free_list.specs.ListPages.{count_of}
 use Rattle.free_list.specs.Shape.{FreeList, entries_below, entries_on, head_of, previous}
 use Rattle.free_list.specs.StoredList.{StoredList}
-use Rattle.free_list.specs.Reading.{empty_list, on_top, count_fits, all_entries_fit, read_from, list_from, read_list}
+use Rattle.free_list.specs.Reading.{empty_list, on_top, count_fits, all_entries_fit, read_from, list_from}
 use Rattle.free_list.proofs.ListPagesLaws.{length-entries_of}
 use Rattle.free_list.proofs.ReadingLaws.{read_from-page, read_from_end}
 use Rattle.free_list.proofs.ShapeLaws.{shaped}
@@ -131,7 +131,7 @@ module _ (s : ℕ) (store : List ℕ) (m : FreeList) (two : 2 ≤ capacity s) (s
       λ i. record { pages = pages i; entries = entries i }
 
   -- A list that a store holds is read, from its head.
-  pub read_stored : read_list s store (head_of m) ≡ answer m
+  pub read_stored : list_from s store false (head_of m) ≡ answer m
   unfolding list_from head_of
   read_stored =
       let none : P - P ≡ 0 = omega arith in

@@ -1,11 +1,13 @@
--- List reading: from the head page through the previous numbers until nil.
+-- List reading: from the head page through the previous numbers until nil. In a list that is read no number stands twice.
 use Rattle.std.specs.Prelude.{ℕ, zero, suc, ◌+◌, Bool, true, false, ◌&&◌, ◌||◌, cond, List, [], ◌∷◌, ◌++◌, leb, ltb, eqb, length, Result}
 use Rattle.std.proofs.lemmas.List.Edits.{sets}
 use denote.Triple.Both.{Both}
 use Rattle.std.specs.Borrow.{MutBor}
 use Rattle.refusal.specs.Outcome.{Outcome, answer, refused, check, with_answer}
 use Rattle.refusal.specs.Refusals.{outcome}
-use Rattle.refusal.specs.Effect.{LentMut, Effect, leaves}
+use Rattle.refusal.specs.Effect.{LentMut, before, after, Effect, leaves, go_on}
+use Rattle.laws.specs.Counting.{all_different}
+use Rattle.bit_map.specs.BitMap.{has_bits, cleared}
 use Rattle.page.specs.PageSize.{capacity}
 use Rattle.page.specs.Pages.{page_count, page_at}
 use Rattle.free_list.specs.ListPages.{prev_of, count_of, entries_of}
@@ -54,9 +56,17 @@ read_from s store loose (suc allowed) above entries (suc q) =
 unfoldable pub list_from : ℕ → List ℕ → Bool → ℕ → Outcome FreeList
 list_from s store loose head = read_from s store loose (page_count s store) 0 0 head
 
+-- all its numbers: of its pages, and its entries
+abbrev pub numbers_of : FreeList → List ℕ
+numbers_of l = l.pages ++ l.entries
+
+-- a list is accepted where all its numbers differ (refusal 22)
+abbrev pub differing : FreeList → Outcome FreeList
+differing l = check (all_different (numbers_of l)) 22 [] (answer l)
+
 -- the accepted list with this head page
 abbrev pub read_list : ℕ → List ℕ → ℕ → Outcome FreeList
-read_list s store head = list_from s store false head
+read_list s store head = with_answer differing (list_from s store false head)
 
 -- how many pages and entries a list has
 pub record ListSize : Type 0 where
@@ -82,10 +92,27 @@ list_in t l = record { pages = sets t.pages 0 l.pages; entries = sets t.entries 
 abbrev pub has_room : ListTables → FreeList → Bool
 has_room t l = leb (length l.pages) (length t.pages) && leb (length l.entries) (length t.entries)
 
--- read a list into two tables
-unfoldable pub read_list_into : ℕ → List ℕ → Bool → ℕ → ListTables → Effect ListSize ListTables
-read_list_into s store loose head t =
-    leaves size_of (list_in t) t (with_answer (λ l. check (has_room t l) 6 [] (answer l)) (list_from s store loose head))
+-- what is lent to the reader: the two tables, and a bit map with a bit for each page of the store
+pub record ListLent : Type 0 where
+  pub tables : ListTables
+  pub map : List ℕ
+
+abbrev pub list_lent : (LentMut → List ℕ) → LentMut → LentMut → LentMut → ListLent
+list_lent at pages entries map = record { tables = tables at pages entries; map = at map }
+
+-- the list in its tables, and the map's bytes in use zero
+abbrev pub list_lent_in : ℕ → ListLent → FreeList → ListLent
+list_lent_in count lent l = record { tables = list_in lent.tables l; map = cleared count lent.map }
+
+-- read a list into two tables, with a bit map. The pages, and the map's room (refusal 21), are judged before anything is written; once the map was
+-- seen to have room its bytes in use are zero, and refusals leave the tables
+unfoldable pub read_list_into : ℕ → List ℕ → Bool → ℕ → ListLent → Effect ListSize ListLent
+read_list_into s store loose head lent =
+    let count = page_count s store in
+    let unmarked : ListLent = record { tables = lent.tables; map = cleared count lent.map } in
+    go_on lent
+    (λ l. leaves size_of (list_lent_in count lent) unmarked (with_answer (λ m. check (has_room lent.tables m) 6 [] (answer m)) (differing l)))
+    (with_answer (λ l. check (has_bits count (length lent.map)) 21 [] (answer l)) (list_from s store loose head))
 
 -- ---- what the code says, to a definition
 
@@ -106,6 +133,13 @@ tables_now t = record { pages = t.pages.now; entries = t.entries.now }
 abbrev pub is_loose : Reading → Bool
 is_loose Strict = false
 is_loose Loose = true
+
+-- with the map that is lent beside them
+abbrev pub list_lent_before : LentTables → LentMut → ListLent
+list_lent_before t map = record { tables = tables_before t; map = before map }
+
+abbrev pub list_lent_after : LentTables → LentMut → ListLent
+list_lent_after t map = record { tables = tables_after t; map = after map }
 
 -- what the code answers, as an outcome
 abbrev pub read_outcome : Result ListCounts Refusal → Outcome ListSize

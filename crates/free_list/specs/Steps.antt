@@ -1,10 +1,11 @@
 -- The reader's work in parts: the walk that only reads, and the filling of the tables. Only private functions cite these.
-use Rattle.std.specs.Prelude.{ℕ, zero, suc, ◌+◌, ◌*◌, ◌^◌, ◌≤◌, ◌<◌, ◌≡◌, Bool, true, List, length, Option, Some, None, Result, Ok, Err}
+use Rattle.std.specs.Prelude.{ℕ, zero, suc, ◌+◌, ◌*◌, ◌^◌, ◌≤◌, ◌<◌, ◌≡◌, Bool, true, List, [], ◌∷◌, ◌++◌, length, Option, Some, None, Result, Ok, Err}
 use Rattle.refusal.specs.Outcome.{Outcome, answer, with_answer}
 use Rattle.refusal.specs.Refusals.{refusal}
 use Rattle.refusal.specs.declared.Refusal.{Refusal}
 use Rattle.page.specs.PageSize.{IsPageSize, capacity, most_entries}
 use Rattle.page.specs.Pages.{page_count, page_at}
+use Rattle.bit_map.specs.BitMap.{has_bits}
 use Rattle.free_list.specs.ListPages.{prev_of, count_of, entries_of}
 use Rattle.free_list.specs.Shape.{FreeList}
 use Rattle.free_list.specs.Reading.{empty_list, on_top, count_fits, all_entries_fit, read_from, list_from, ListSize, size_of}
@@ -120,6 +121,17 @@ chain_from s store (suc k) p = on_top p (entries_of (page_at s store p)) (chain_
 abbrev pub Readable : ℕ → List ℕ → ℕ → ℕ → Type 0
 Readable s store zero p = Unit {0}
 Readable s store (suc k) p = (p < page_count s store) × (count_of (page_at s store p) ≤ capacity s) × Readable s store k (prev_of (page_at s store p))
+
+-- the numbers of these pages, as a walk down comes to them: each page's own number, and its entries
+unfoldable pub chain_numbers : ℕ → List ℕ → ℕ → ℕ → List ℕ
+chain_numbers s store zero p = []
+chain_numbers s store (suc k) p = (p ∷ entries_of (page_at s store p)) ++ chain_numbers s store k (prev_of (page_at s store p))
+
+-- what the judging of its numbers asks: such pages, with as many entries as are counted, and a map with a bit for each page of the store
+pub record Judgeable (s : ℕ) (store : List ℕ) (head : ℕ) (list : ListCounts) (map : ℕ) : Type 0 where
+  pub size : IsPageSize s
+  pub readable : Readable s store list.pages head
+  pub room : has_bits (page_count s store) map ≡ true
 
 -- what the filling asks: such a list, with as many entries as are counted, and room for it
 pub record Fillable (s : ℕ) (store : List ℕ) (head : ℕ) (list : ListCounts) (pages entries : ℕ) : Type 0 where

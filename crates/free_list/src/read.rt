@@ -1,30 +1,40 @@
-// Reading a list into two lent tables: first a walk that only reads, then the filling, which cannot fail.
+// Reading a list into two lent tables: first a walk that only reads, then one that marks the numbers in a bit map, and then the filling, which
+// cannot fail.
 ghost use Rattle.std.specs.Prelude.{◌≡◌, length};
 ghost use Rattle.refusal.specs.Effect.{effect};
-ghost use Rattle.free_list.specs.Reading.{is_loose, tables_before, tables_after, list_in, read_list_into, read_outcome};
+ghost use Rattle.free_list.specs.Reading.{is_loose, tables_before, tables_after, list_in, list_lent_before, list_lent_after, read_list_into, read_outcome};
 ghost use Rattle.free_list.specs.Steps.{chain_from, Fillable};
 
 use crate::page_ref::FreeListPageRef;
+use crate::repeats::numbers_differ;
 use crate::tables::Tables;
 use crate::walk::measure;
 pub use crate::walk::{ListCounts, Reading};
+use bit_map::map::has_bits;
 use page::little_endian::read_numbers;
 use page::number::PageNumber;
 use page::store::Store;
 use refusal::Refusal;
 
 // Reads the list with this head page. Returns how many pages and entries now stand in the tables; after a refusal both tables are as
-// they were.
+// they were. Once the map is known to have a bit for each page of the store, its bytes in use are zero whatever comes.
 pub fn read(
     store: &Store,
     reading: Reading,
     head: PageNumber,
     tables: Tables,
+    map: &mut [u8],
 ) -> Result<ListCounts, Refusal>
-    ensures { effect (read_outcome result) (tables_after tables) ≡ read_list_into store.now.page_size store.now.bytes (is_loose reading) head.0 (tables_before tables) }
+    ensures { effect (read_outcome result) (list_lent_after tables map) ≡ read_list_into store.now.page_size store.now.bytes (is_loose reading) head.0 (list_lent_before tables map) }
 {
     let Tables { pages, entries } = tables;
     let list = measure(store, reading, head.0)?;
+    if !has_bits(store.page_count() as usize, map) {
+        return Err(Refusal::Map);
+    }
+    if !numbers_differ(store, head.0, list, map) {
+        return Err(Refusal::Repeat);
+    }
     if pages.len() < list.pages || entries.len() < list.entries {
         return Err(Refusal::Tables);
     }

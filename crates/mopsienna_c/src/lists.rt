@@ -11,9 +11,10 @@ pub extern "C" fn mopsienna_read_list(
     head: u32,
     pages: &mut [u32],
     entries: &mut [u32],
+    map: &mut [u8],
     out: &mut [u64; 8],
 ) -> u32
-    ensures { ReadsList standard_page_size store head pages entries out result }
+    ensures { ReadsList standard_page_size store head pages entries map out result }
 {
-    calls::lists::read_list(PageSize::standard(), store, head, pages, entries, out)
+    calls::lists::read_list(PageSize::standard(), store, head, pages, entries, map, out)
 }

@@ -44,9 +44,10 @@ pub extern "C" fn mopsienna_finish(
     freed: &[u32],
     buffer: &mut [u8],
     numbers: &mut [u32],
+    map: &mut [u8],
     out: &mut [u64; 8],
 ) -> u32
-    ensures { Finishes standard_page_size bump length p l count pages entries freed buffer numbers out result }
+    ensures { Finishes standard_page_size bump length p l count pages entries freed buffer numbers map out result }
 {
     calls::saves::finish(
         PageSize::standard(),
@@ -60,6 +61,7 @@ pub extern "C" fn mopsienna_finish(
         freed,
         buffer,
         numbers,
+        map,
         out,
     )
 }

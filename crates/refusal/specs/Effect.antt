@@ -42,6 +42,11 @@ abbrev pub leaves : {A B C : Type 0} → (A → C) → (A → B) → B → Outco
 leaves told written lent (answer a) = effect (answer (told a)) (written a)
 leaves told written lent (refused number values) = effect (refused number values) lent
 
+-- a refusal leaves all as it was, and behind an answer it goes on
+abbrev pub go_on : {A B C : Type 0} → B → (A → Effect C B) → Outcome A → Effect C B
+go_on lent next (answer a) = next a
+go_on lent next (refused number values) = effect (refused number values) lent
+
 -- ---- what a function of the C interface leaves: what it returns, its `out`, and what was lent beside that
 
 pub record Called (B : Type 0) : Type 0 where

@@ -2,7 +2,7 @@
 use Rattle.std.specs.Prelude.{ℕ, List, [], ◌∷◌, Option, Some, None, Result, Ok, Err}
 use Rattle.refusal.specs.Outcome.{Outcome, answer, refused}
 use Rattle.refusal.specs.declared.Refusal.{Refusal}
-use Rattle.refusal.specs.declared.Refusal.TheVariants.{State, ListPage, Count, Entry, Chain, Tables, Limit, Freed, Buffer, Size, Index, Cell, Room, Unknown, Missing, ValuePage, Numbers, Bytes, EmptyPage}
+use Rattle.refusal.specs.declared.Refusal.TheVariants.{State, ListPage, Count, Entry, Chain, Tables, Limit, Freed, Buffer, Size, Index, Cell, Room, Unknown, Missing, ValuePage, Numbers, Bytes, Map, Repeat, EmptyPage}
 
 -- the number
 abbrev pub number : Refusal → ℕ
@@ -24,6 +24,8 @@ number (Missing index) = 15
 number (ValuePage index) = 16
 number Numbers = 17
 number Bytes = 18
+number Map = 21
+number Repeat = 22
 number (EmptyPage index) = 25
 
 -- what is returned beside the number; of a page that is looked up the index of `Missing` is its number
@@ -46,6 +48,8 @@ values (Missing index) = index ∷ []
 values (ValuePage index) = index ∷ []
 values Numbers = []
 values Bytes = []
+values Map = []
+values Repeat = []
 values (EmptyPage index) = index ∷ []
 
 -- a value returned beside the number, or none

@@ -46,6 +46,10 @@ pub enum Refusal {
     Numbers,
     // 18: the bytes found are not `size`.
     Bytes,
+    // 21: the bit map is too short.
+    Map,
+    // 22: a number stands twice in a list, or with the freed ones; of a finish also one at or past the bump.
+    Repeat,
     // 25: the value page at this index has no numbers and no bytes.
     EmptyPage(usize),
 }
@@ -74,6 +78,8 @@ impl From<Refusal> for u32 {
             Refusal::ValuePage(_) => 16,
             Refusal::Numbers => 17,
             Refusal::Bytes => 18,
+            Refusal::Map => 21,
+            Refusal::Repeat => 22,
             Refusal::EmptyPage(_) => 25,
         }
     }

@@ -12,15 +12,16 @@ use record_line::fault::{Fault, WrongLine};
 use record_line::fields::{BLANK_OUT, Fields};
 use replayed_values::pages::{NONE_PENDING, agrees, page_size};
 
-// size head store[], the lengths of both tables | status out pages entries
+// size head store[], the lengths of both tables and of the map | status out pages entries map
 pub fn read_list(fields: &mut Fields<'_>) -> Result<(), Fault>
-    ensures { OnOk result (TakesAtLeast 14 fields.old fields.new) }
+    ensures { OnOk result (TakesAtLeast 15 fields.old fields.new) }
 {
     let page_size = page_size(fields)?;
     let head = fields.number()?;
     let store = fields.array()?;
     let mut pages = fields.blank()?;
     let mut entries = fields.blank()?;
+    let mut map = fields.blank()?;
     let mut out = BLANK_OUT;
     let status = calls::lists::read_list(
         page_size,
@@ -28,6 +29,7 @@ pub fn read_list(fields: &mut Fields<'_>) -> Result<(), Fault>
         head,
         &mut pages,
         &mut entries,
+        &mut map,
         &mut out,
     );
     if status == 0 && head != 0 {
@@ -40,7 +42,8 @@ pub fn read_list(fields: &mut Fields<'_>) -> Result<(), Fault>
     }
     fields.expect_reply(status, &out)?;
     fields.expect(&pages)?;
-    Ok(fields.expect(&entries)?)
+    fields.expect(&entries)?;
+    Ok(fields.expect(&map)?)
 }
 
 // Whether the entries of a page are the last ones of the first `listed` places of the table.
@@ -104,9 +107,9 @@ pub fn hand_out(fields: &mut Fields<'_>) -> Result<(), Fault>
     Ok(fields.expect_reply(status, &out)?)
 }
 
-// an open save, pages[] entries[] freed[], the lengths of the buffer and of its numbers | status out pages entries buffer numbers
+// an open save, pages[] entries[] freed[], the lengths of the buffer, of its numbers and of the map | status out pages entries buffer numbers map
 pub fn finish(fields: &mut Fields<'_>) -> Result<(), Fault>
-    ensures { OnOk result (TakesAtLeast 20 fields.old fields.new) }
+    ensures { OnOk result (TakesAtLeast 21 fields.old fields.new) }
 {
     let save = Opened::take(fields)?;
     let mut pages = fields.array()?;
@@ -114,6 +117,7 @@ pub fn finish(fields: &mut Fields<'_>) -> Result<(), Fault>
     let freed = fields.array()?;
     let mut buffer = fields.blank()?;
     let mut numbers = fields.blank()?;
+    let mut map = fields.blank()?;
     let mut out = BLANK_OUT;
     let status = saves::finish(
         save.page_size,
@@ -127,11 +131,13 @@ pub fn finish(fields: &mut Fields<'_>) -> Result<(), Fault>
         &freed,
         &mut buffer,
         &mut numbers,
+        &mut map,
         &mut out,
     );
     fields.expect_reply(status, &out)?;
     fields.expect(&pages)?;
     fields.expect(&entries)?;
     fields.expect(&buffer)?;
-    Ok(fields.expect(&numbers)?)
+    fields.expect(&numbers)?;
+    Ok(fields.expect(&map)?)
 }

@@ -10,12 +10,12 @@ fn grows(rt: HostRuntime) {
     assert!(rt; replay(rt.alloc(), &line));
 }
 
-// A list of one page, with one entry, in a store of two pages.
+// A list of one page, with one entry, in a store of three pages.
 #[test]
 fn reads_a_list(rt: HostRuntime) -> Result<(), Fail> {
     let line = numbers(
         rt.alloc(),
-        "3 16 1 32 0 0 0 0 0 0 0 0 0 0 0 0 0 0 0 0 0 0 0 0 1 0 1 0 0 0 0 0 0 0 0 0 1 1 0 1 1 9 9 9 9 9 9 1 1",
+        "3 16 1 48 0 0 0 0 0 0 0 0 0 0 0 0 0 0 0 0 0 0 0 0 1 0 2 0 0 0 0 0 0 0 0 0 0 0 0 0 0 0 0 0 0 0 0 0 0 0 0 0 1 1 1 0 1 1 9 9 9 9 9 9 1 2 0",
     )?;
     assert!(rt; replay(rt.alloc(), &line));
     Ok(())
@@ -37,7 +37,7 @@ fn hands_out(rt: HostRuntime) -> Result<(), Fail> {
 fn finishes(rt: HostRuntime) -> Result<(), Fail> {
     let line = numbers(
         rt.alloc(),
-        "5 1024 18 16384 0 0 0 0 0 0 0 0 0 0 18 16384 0 0 0 9 9",
+        "5 1024 18 16384 0 0 0 0 0 0 0 0 3 0 0 18 16384 0 0 0 9 9 0 0 0",
     )?;
     assert!(rt; replay(rt.alloc(), &line));
     Ok(())

@@ -3,6 +3,7 @@
 -- By induction over the calls; what a definition has put into a lent slice is taken out of it again.
 use Prim.Native.Nat.{ℕ, suc, ◌+◌, ◌*◌, ◌<◌, ◌≤◌}
 use mathlib.Core.Path.{◌≡◌, refl, sym, ◌∙◌, ap, ap₂, subst}
+use mathlib.Core.Bool.{false}
 use mathlib.Core.List.Memᴰ
 use mathlib.Core.List.{List, [], ◌∷◌, ◌++◌, map, append_assoc, Memᴰ}
 use native.Mathlib.Nat.{mul-suc, mul-zero}
@@ -13,13 +14,13 @@ use lib.ListN.{length, get_or, take, drop, length-append, length-map}
 use lib.Seq.{sets, sets-eq, take_at, drop_at, get_or_at}
 use Rattle.laws.proofs.Tests.{and-true, cond_cases}
 use Rattle.refusal.specs.Outcome.{Outcome, answer, refused}
-use Rattle.refusal.specs.Effect.{Effect, leaves}
+use Rattle.refusal.specs.Effect.{Effect, effect}
 use Rattle.page.specs.PageSize.{IsPageSize}
 use Rattle.page.specs.Pages.{page_at, Write}
 use Rattle.page.specs.Growth.{grown}
 use Rattle.page.proofs.GrowthLaws.{grown_covers}
 use Rattle.free_list.specs.Shape.{FreeList}
-use Rattle.free_list.specs.Reading.{ListSize, ListTables, list_in}
+use Rattle.free_list.specs.Reading.{ListSize, ListTables, ListLent, list_in}
 use Rattle.overflow.specs.Cells.{decode_cell_into}
 use Rattle.overflow.specs.Kept.{cell_for}
 use Rattle.overflow.proofs.NewTotalLaws.{either_positive}
@@ -27,11 +28,13 @@ use Rattle.overflow.proofs.CellsLaws.{count_encoded}
 use Rattle.overflow.proofs.ReadBackLaws.{decode-back, reads_back}
 use Rattle.allocator.specs.OpenSave.{Save, bumped, HandedOut, hand_out}
 use Rattle.finisher.specs.Finish.{Finished, FinishAnswer, finish_answer, finish, FinishRoom, FinishLent, bytes_of_pages, lent_pages, stored, finish_into, room_in}
-use Rattle.finisher.proofs.FinishLaws.{Succeeds, succeeds, bump_raised}
-use Rattle.finisher.proofs.ReadBackLaws.{good_freed}
+use Rattle.finisher.proofs.FinishLaws.{Succeeds, succeeds, bump_raised, lent_unmarked, into-answered, into-refused}
+use Rattle.finisher.proofs.TablesLaws.{good_freed}
 use Rattle.rollback.specs.Calls.{in_front, open_on, Call, hand_out_call, finish_call, Run, after_hand_out, after_finish, run}
 use Rattle.rollback.specs.Rollback.{ToWrite, value_page as value_page_at, list_page as list_page_at}
-use Rattle.rollback.specs.CodeCalls.{CodeCall, hand_out_made, finish_made, OpenOn, if_answered, Follows, numbers_told, FinishTold, told_with, finish_told, pages_left, Tells, FinishIs, IsRun, CodeRuns, ReadOpens, WrittenReads, FromCode, value_page, list_page, CodeRollback}
+use Rattle.rollback.specs.CodeCalls.{CodeCall, hand_out_made, finish_made, OpenOn, if_answered, Follows, answers, numbers_told, FinishTold, told_with, finish_told, pages_left, Tells, FinishIs, IsRun, CodeRuns, ReadGets, ReadOpens, WrittenReads, FromCode, value_page, list_page, CodeRollback}
+use Rattle.free_list.proofs.RepeatsLaws.{answered_read, read_differing}
+use Rattle.rollback.proofs.ReadersLaws.{gets_list}
 use Rattle.rollback.proofs.WritesLaws.{written_whole}
 use Rattle.rollback.proofs.RollbackLaws.{rollback}
 
@@ -88,22 +91,32 @@ list_front t l h k =
       λ i. record { pages = p i; entries = q i },
     )
 
+-- one read that answers is a read of its list
+pub read_gets : (s : ℕ) → ReadGets s
+read_gets s store head lent after size e =
+    let r = answered_read s store false head lent after size e in
+    let l = r.list in
+    let fits = and-true (leb (length l.pages) (length lent.tables.pages)) _ r.fits in
+    let (behind, front) = list_front lent.tables l (leb-true _ (length lent.tables.pages) fits.0) (leb-true _ (length lent.tables.entries) fits.1) in
+    (l, gets_list s store head l (read_differing s store head r.reads r.differs), sym r.told, behind, ap (λ (x : ListLent). x.tables) (sym r.written) ∙ front)
+
 -- so do those that it was read into
 pub read_opens : (s : ℕ) → ReadOpens s
-read_opens s store head l gets t room =
-    let fits = and-true (leb (length l.pages) (length t.pages)) _ room in
-    let (behind, e) = list_front t l (leb-true _ (length t.pages) fits.0) (leb-true _ (length t.entries) fits.1) in
-    (behind, ap (λ (x : Effect ListSize ListTables). x.lent) (gets t room) ∙ e)
+read_opens s store head l gets t room bits =
+    let fits = and-true (leb (length l.pages) (length t.tables.pages)) _ room in
+    let (behind, e) = list_front t.tables l (leb-true _ (length t.tables.pages) fits.0) (leb-true _ (length t.tables.entries) fits.1) in
+    (behind, ap (λ (x : Effect ListSize ListLent). x.lent.tables) (gets t room bits) ∙ e)
 
 -- ---- a finish that answers
 
 module _ {s : ℕ} (size : IsPageSize s) (v : Save) (freed : List ℕ) (room : FinishRoom) where
+  -- what was lent, once the map was used
   abbrev before : FinishLent
-  before = record { tables = record { pages = v.page_table; entries = v.entry_table }; room = room }
+  before = lent_unmarked s v freed room
 
-  -- what the call leaves, by what comes of it
-  abbrev left_by : Outcome Finished → Effect FinishAnswer FinishLent
-  left_by o = leaves (finish_answer v) (stored before) before o
+  -- what the call leaves where it answers
+  abbrev left_by : Finished → Effect FinishAnswer FinishLent
+  left_by f = effect (answer (finish_answer v f)) (stored before f)
 
   -- the recorded length is not below the bump, and so past all numbers freed
   freed_covered : {f : Finished} → Succeeds s v freed f → (n : ℕ) → Memᴰ n freed → n < (finish_answer v f).recorded
@@ -154,27 +167,33 @@ module _ {s : ℕ} (size : IsPageSize s) (l : FreeList) (bump : ℕ) where
       (calls, record { numbers = is.numbers; finish = is.finish })
 
   after_finish_lem : (made : List CodeCall) → Rest made → (n : ℕ) (v : Save) (freed : List ℕ) (room : FinishRoom) (o : Outcome Finished) → finish s v freed (room_in room) ≡ o
-      → (e : Effect FinishAnswer FinishLent) → e ≡ left_by size v freed room o
+      → (e : Effect FinishAnswer FinishLent) → e ≡ finish_into s v freed room
       → if_answered (λ (a : FinishAnswer). OpenOn l bump n v × (made ≡ [])) (Follows s l bump n made) e.outcome → Runs n (finish_made v freed room e ∷ made)
   unfolding run numbers_told finish_told
-  after_finish_lem made rest n v freed room (answer f) done e q =
+  after_finish_lem made rest n v freed room (answer f) done e q follows =
       subst
       (λ (x : Effect FinishAnswer FinishLent). if_answered (λ (a : FinishAnswer). OpenOn l bump n v × (made ≡ [])) (Follows s l bump n made) x.outcome → Runs n (finish_made v freed room x ∷ made))
-      (sym q)
+      (sym (q ∙ into-answered s v freed room f done))
       answered
+      follows
     where
-      answered : OpenOn l bump n v × (made ≡ []) → Runs n (finish_made v freed room (left_by size v freed room (answer f)) ∷ made)
+      answered : OpenOn l bump n v × (made ≡ []) → Runs n (finish_made v freed room (left_by size v freed room f) ∷ made)
       answered ((own, given), ends) =
           let out : finish s (open_on l bump n own) freed (room_in room) ≡ answer f = ap (λ (w : Save). finish s w freed (room_in room)) (sym given) ∙ done in (
             finish_call own freed (room_in room) ∷ [],
-            subst (λ (x : Outcome Finished). IsRun s (finish_made v freed room (left_by size v freed room (answer f)) ∷ made) (after_finish freed (run s l bump n []) x)) (sym out)
+            subst (λ (x : Outcome Finished). IsRun s (finish_made v freed room (left_by size v freed room f) ∷ made) (after_finish freed (run s l bump n []) x)) (sym out)
                 (record { numbers = sym (ap numbers_told ends); finish = (ap finish_told ends, refl, f, refl, stored_tells size v freed room f done) }),
           )
-  after_finish_lem made rest n v freed room (refused number vs) done e q =
-      subst
-      (λ (x : Effect FinishAnswer FinishLent). if_answered (λ (a : FinishAnswer). OpenOn l bump n v × (made ≡ [])) (Follows s l bump n made) x.outcome → Runs n (finish_made v freed room x ∷ made))
-      (sym q)
-      (λ follows. let (calls, is) = rest n follows in (calls, record { numbers = is.numbers; finish = is.finish }))
+  after_finish_lem made rest n v freed room (refused number vs) done e q follows =
+      let out = ap (λ (x : Effect FinishAnswer FinishLent). x.outcome) q ∙ into-refused s v freed room done in
+      let (calls, is) = rest n (subst (λ (o : Outcome FinishAnswer). if_answered (λ (a : FinishAnswer). OpenOn l bump n v × (made ≡ [])) (Follows s l bump n made) o) out follows) in
+      let r = run s l bump n calls in (
+        calls,
+        record {
+          numbers = is.numbers;
+          finish = subst (λ (o : Outcome FinishAnswer). FinishIs s r.finished r.freed (map (told_with freed e.lent) (answers o) ++ finish_told made)) (sym out) is.finish;
+        },
+      )
 
   runs : (made : List CodeCall) → Rest made
   unfolding run numbers_told finish_told finish_into

@@ -5,4 +5,5 @@ pub mod WritesLaws
 pub mod RollbackLaws
 pub mod SeasonsLaws
 pub mod BridgeLaws
+pub mod HandedOutLaws
 pub mod Witness

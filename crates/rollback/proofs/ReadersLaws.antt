@@ -10,12 +10,14 @@ use lib.Dec.{leb, eqb}
 use lib.ListN.{length, take, replicate, length-append, length-replicate}
 use lib.Seq.{sets, take_all}
 use Rattle.laws.proofs.SetsLaws.{take-sets}
-use Rattle.refusal.specs.Outcome.{Outcome, answer, refused, check}
-use Rattle.refusal.specs.Effect.{Effect, effect, leaves}
-use Rattle.refusal.proofs.OutcomeLaws.{unanswer, check_answer, with_answer_answer}
+use Rattle.bit_map.specs.BitMap.{bytes_in_use, has_bits, cleared}
+use Rattle.refusal.specs.Outcome.{Outcome, answer, refused, check, with_answer}
+use Rattle.refusal.specs.Effect.{Effect, effect, leaves, go_on}
+use Rattle.refusal.proofs.OutcomeLaws.{not_refused, unanswer, check_answer, with_answer_answer}
 use Rattle.page.specs.Pages.{page_count, page_at}
 use Rattle.free_list.specs.Shape.{FreeList}
-use Rattle.free_list.specs.Reading.{read_list, ListSize, size_of, ListTables, list_in, has_room, read_list_into}
+use Rattle.free_list.specs.Reading.{differing, list_from, read_list, ListSize, size_of, ListLent, list_lent_in, has_room, read_list_into}
+use Rattle.free_list.proofs.RepeatsLaws.{read_chained, read_differs}
 use Rattle.overflow.specs.Totals.{old_total}
 use Rattle.overflow.specs.Cells.{Cell, cell_of, decode_cell}
 use Rattle.overflow.specs.Reading.{in_store, Found, in_cell, Walked, ended, stopped, walk, table_after, first_walk, value_total, admitted, whole_value, ValueCounts, value_counts_of, ReadLent, value_stored, read_pages, read_cell, read_value_into}
@@ -26,14 +28,7 @@ use Rattle.rollback.specs.Rollback.{GetsList, Value, GetsValue}
 
 -- ---- effects
 
--- an effect that answers is not one of a refusal,
-not_refused : {A B : Type 0} {n : ℕ} {vs : List ℕ} {lent m : B} {a : A} → effect (refused n vs) lent ≡ effect (answer a) m → ⊥
-not_refused {A} {B} {n} {vs} {lent} {m} {a} e =
-    let o : refused n vs ≡ answer a = ap (λ (x : Effect A B). x.outcome) e in
-    let z : ◌≡◌ {A = ℕ} 0 1 = cc in
-    omega arith
-
--- and has an answer behind it
+-- an effect that answers has an answer behind it
 pub record Behind {A B C : Type 0} (told : A → C) (written : A → B) (c : C) (m : B) (o : Outcome A) : Type 0 where
   pub result : A
   pub answered : o ≡ answer result
@@ -53,24 +48,51 @@ stands l xs ys a h e = sym (take-sets l xs (omega (arith, a))) ∙ ap (take (len
 -- ---- lists
 
 module _ (s : ℕ) (store : List ℕ) (head : ℕ) (l : FreeList) where
+  abbrev count : ℕ
+  count = page_count s store
+
+  -- tables of just its own lengths, and a map of just the bytes that are used
+  abbrev own : ListLent
+  own = record { tables = record { pages = l.pages; entries = l.entries }; map = replicate (bytes_in_use count) 0 }
+
+  own_room : has_room own.tables l ≡ true
+  own_room = rw (le-leb (length l.pages) (length l.pages) (omega arith), le-leb (length l.entries) (length l.entries) (omega arith)) refl
+
+  own_bits : has_bits count (length own.map) ≡ true
+  own_bits = le-leb (bytes_in_use count) (length own.map) (omega (arith, length-replicate {A = ℕ} (bytes_in_use count) 0))
+
+  -- what reading makes of the chain's outcome
+  abbrev judged : FreeList → Outcome FreeList
+  judged m = with_answer (λ k. check (has_room own.tables k) 6 [] (answer k)) (differing m)
+
+  abbrev by_chain : Outcome FreeList → Effect ListSize ListLent
+  by_chain o =
+      go_on own (λ m. leaves size_of (list_lent_in count own) (record { tables = own.tables; map = cleared count own.map }) (judged m))
+      (with_answer (λ m. check (has_bits count (length own.map)) 21 [] (answer m)) o)
+
   -- a list that a reader gets is the one that is read
   pub list_read : GetsList s store head l → read_list s store head ≡ answer l
   unfolding read_list_into
-  list_read gets =
-      let t : ListTables = record { pages = l.pages; entries = l.entries } in
-      let room : has_room t l ≡ true = rw (le-leb (length l.pages) (length l.pages) (omega arith), le-leb (length l.entries) (length l.entries) (omega arith)) in
-      let b = behind size_of (list_in t) t _ (gets t room) in
-      let w = with_answer_answer (λ m. check (has_room t m) 6 [] (answer m)) (read_list s store head) b.answered in
-      let m = b.result in
-      let same : w.0 ≡ m = unanswer (check_answer (has_room t w.0) 6 [] (answer w.0) w.2).1 in
-      let p = stands l.pages m.pages l.pages (ap (λ (x : ListSize). x.P) b.told_is) (omega arith) (ap (λ (x : ListTables). x.pages) b.written_is) in
-      let q = stands l.entries m.entries l.entries (ap (λ (x : ListSize). x.L) b.told_is) (omega arith) (ap (λ (x : ListTables). x.entries) b.written_is) in
-      let is : m ≡ l = λ i. record { pages = p i; entries = q i } in
-      w.1 ∙ ap answer (same ∙ is)
+  list_read gets = go (list_from s store false head) (gets own own_room own_bits)
+    where
+      is : (o : Outcome FreeList) → (b : Behind size_of (list_lent_in count own) (size_of l) (list_lent_in count own l) o) → b.result ≡ l
+      is o b =
+          let m = b.result in
+          let p = stands l.pages m.pages l.pages (ap (λ (x : ListSize). x.P) b.told_is) (omega arith) (ap (λ (x : ListLent). x.tables.pages) b.written_is) in
+          let q = stands l.entries m.entries l.entries (ap (λ (x : ListSize). x.L) b.told_is) (omega arith) (ap (λ (x : ListLent). x.tables.entries) b.written_is) in
+          λ i. record { pages = p i; entries = q i }
+
+      go : (o : Outcome FreeList) → by_chain o ≡ effect (answer (size_of l)) (list_lent_in count own l) → with_answer differing o ≡ answer l
+      go (answer m) e =
+          let b = behind size_of (list_lent_in count own) _ (judged m) (rw own_bits at e) in
+          let w = with_answer_answer (λ k. check (has_room own.tables k) 6 [] (answer k)) (differing m) b.answered in
+          let same : w.0 ≡ b.result = unanswer (check_answer (has_room own.tables w.0) 6 [] (answer w.0) w.2).1 in
+          w.1 ∙ ap answer (same ∙ is (judged m) b)
+      go (refused n vs) e = absurd (not_refused e)
 
   pub gets_list : read_list s store head ≡ answer l → GetsList s store head l
   unfolding read_list_into
-  gets_list e t room = rw (e, room)
+  gets_list e t room bits = rw (read_chained s store head e, bits, read_differs s store head e, room)
 
 -- ---- values
 

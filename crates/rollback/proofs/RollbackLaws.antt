@@ -3,14 +3,16 @@
 -- pages that are not free.
 use Prim.Native.Nat.{ℕ, ◌<◌, ◌≤◌}
 use mathlib.Core.Path.{◌≡◌, refl, sym, ◌∙◌, ap, subst}
-use mathlib.Core.Logic.{inl, inr}
+use mathlib.Core.Logic.{◌⊎◌, inl, inr}
+use mathlib.Core.Bool.{false}
 use mathlib.Core.List.Memᴰ
 use mathlib.Core.List.{List, [], ◌∷◌, ◌++◌, Memᴰ}
 use native.Mathlib.Decide.{ℕ_discrete}
 use native.Mathlib.Omega.{arith}
 use lib.ListN.{length, length-append}
 use Rattle.laws.proofs.PlacesLaws.{get_d-mem}
-use Rattle.laws.proofs.CountLaws.{different_apart}
+use Rattle.laws.specs.Counting.{Different}
+use Rattle.laws.proofs.CountLaws.{different_apart, once_different, all_different_once}
 use Rattle.refusal.specs.Outcome.{answer}
 use Rattle.page.specs.PageSize.{IsPageSize, standard_page_size}
 use Rattle.page.specs.Pages.{page_count, page_at, Write, write_page, write_pages}
@@ -18,11 +20,13 @@ use Rattle.page.proofs.PageSizeLaws.{page_least, page-size}
 use Rattle.page.proofs.PagesLaws.{page_within_lem, page_count_mono, page_at-grown, length_written, page_same, page_other}
 use Rattle.free_list.specs.Shape.{FreeList, head_of}
 use Rattle.free_list.specs.StoredList.{StoredList}
-use Rattle.free_list.specs.Reading.{read_list}
+use Rattle.free_list.specs.Reading.{numbers_of, list_from, read_list}
+use Rattle.free_list.proofs.RepeatsLaws.{read_chained, read_differs, read_differing}
 use Rattle.free_list.proofs.StoredLaws.{read_stored}
 use Rattle.free_list.proofs.ReadListLaws.{stored-read, head_read}
 use Rattle.finisher.proofs.FinishLaws.{succeeds}
-use Rattle.rollback.specs.Rollback.{GetsList, Value, GetsValue, State, Good, ToWrite, value_page, list_page, Cut, run_of, Rollback}
+use Rattle.finisher.proofs.FinishedLaws.{finish_differs}
+use Rattle.rollback.specs.Rollback.{Made, GetsList, Value, GetsValue, State, Good, ToWrite, value_page, list_page, Cut, run_of, Rollback}
 use Rattle.rollback.proofs.ReadersLaws.{list_read, gets_list, gets-value}
 use Rattle.rollback.proofs.CallsLaws.{Free, handed_free, Ran, run_ran}
 use Rattle.rollback.proofs.WritesLaws.{SamePage, Apart, MayWrite, finish_writes}
@@ -40,11 +44,27 @@ module _ {s : ℕ} (size : IsPageSize s) {a : State} (first : Good s a) where
   read : read_list s store a.head ≡ answer l
   read = list_read s store a.head l first.reads
 
+  chained : list_from s store false a.head ≡ answer l
+  chained = read_chained s store a.head read
+
+  -- its numbers lie below the bump
+  pub below_first : (n : ℕ) → Memᴰ n (numbers_of l) → n < bump
+  below_first = by_origin first.below
+    where
+      by_origin : Made s l bump ⊎ ((n : ℕ) → Memᴰ n (numbers_of l) → n < bump) → (n : ℕ) → Memᴰ n (numbers_of l) → n < bump
+      by_origin (inl (v, freed, room, f, made, list, is)) n m =
+          omega (arith, is, (finish_differs size v freed room f made).1 n (subst (λ (k : FreeList). Memᴰ n (numbers_of k)) list m))
+      by_origin (inr under) n m = under n m
+
+  -- and differ
+  pub differ_first : Different (numbers_of l)
+  differ_first = once_different (numbers_of l) (all_different_once (numbers_of l) (read_differs s store a.head read))
+
   pub head_first : a.head ≡ head_of l
-  head_first = head_read s store a.head l read
+  head_first = head_read s store a.head l chained
 
   pub stored_first : StoredList s store l
-  stored_first = stored-read s store a.head l read
+  stored_first = stored-read s store a.head l chained
 
   pos : 0 < s
   pos = omega (arith, page_least size)
@@ -70,8 +90,8 @@ module _ {s : ℕ} (size : IsPageSize s) {a : State} (first : Good s a) where
 
   -- a free number is none of the first list's pages
   free_page : (n : ℕ) → Free l bump n → Memᴰ n l.pages → ⊥
-  free_page n (inl e) m = different_apart l.pages l.entries first.different n m e
-  free_page n (inr e) m = omega (arith, first.below n (Memᴰ.append_left l.entries m))
+  free_page n (inl e) m = different_apart l.pages l.entries differ_first n m e
+  free_page n (inr e) m = omega (arith, below_first n (Memᴰ.append_left l.entries m))
 
   left-write : (more : List ℕ) (w : Write) → Left more → MayWrite s store l bump w → Left (write_page s more w)
   left-write more w k may =
@@ -109,7 +129,7 @@ module _ {s : ℕ} (size : IsPageSize s) {a : State} (first : Good s a) where
     may_write w (value_page m e) = record { whole = e; apart = inl (handed_free l bump _ w.number (cut-ran.numbers w.number m)) }
     may_write w (list_page f h m) =
         let (room, e) = cut-ran.finishes f h in
-        finish_writes size stored_first first.different first.below cut-ran.of (succeeds s cut-ran.last _ room f e).0 w m
+        finish_writes size stored_first cut-ran.of (succeeds s cut-ran.last _ room f e).0 w m
 
     pub cut_left : Left after
     cut_left = rw c.leaves (left-writes (store ++ c.extra) c.writes (left_start c.extra) (λ w m. may_write w (c.allowed w m)))
@@ -134,7 +154,9 @@ module _ {s : ℕ} (size : IsPageSize s) {a : State} (first : Good s a) where
         }
 
     list_survives : GetsList s more a.head l
-    list_survives = gets_list s more a.head l (ap (read_list s more) head_first ∙ read_stored s more l size.two_entries stored_more)
+    list_survives =
+        gets_list s more a.head l
+        (read_differing s more a.head (ap (list_from s more false) head_first ∙ read_stored s more l size.two_entries stored_more) (read_differs s store a.head read))
 
     -- a page of a first value is as it was
     value-page : (x : Value) → Memᴰ x a.values → (n : ℕ) → Memᴰ n x.numbers → n < page_count s store → page_at s more n ≡ page_at s store n

@@ -1,43 +1,44 @@
 -- One save after another: a save that was finished, written whole and kept to the rules is as good as the first one was.
--- Numbers are counted with repeats: a finish conserves them, and one that a value has or that is freed is no longer free before it.
+-- Numbers are counted with repeats: a finish conserves them, and one that a value has is no longer free before it.
 use Prim.Native.Nat.{ℕ, ◌+◌, ◌-◌, min, ◌<◌, ◌≤◌}
 use mathlib.Core.Path.{◌≡◌, refl, sym, ◌∙◌, ap, subst}
 use mathlib.Core.Logic.{◌⊎◌, inl, inr}
-use mathlib.Core.Bool.{false, ◌&&◌}
+use mathlib.Core.Bool.{true, false, ◌&&◌}
 use mathlib.Core.List.Memᴰ
 use mathlib.Core.List.{List, [], ◌∷◌, ◌++◌, Memᴰ}
-use native.Mathlib.Decide.{dec_lt}
 use native.Mathlib.Omega.{arith}
 use lib.Dec.{eqb}
 use lib.ListN.{length, get_or, drop, length-drop, drop_of_length-le}
 use lib.Seq.{get_or-drop}
-use Rattle.laws.specs.Counting.{count, numbers_from}
+use Rattle.laws.specs.Counting.{count, numbers_from, Different, all_different}
 use Rattle.laws.proofs.PlacesLaws.{get_d-mem}
-use Rattle.laws.proofs.CountLaws.{count_none, count-append, mem-count, count-mem, count-before, count_once, different_once, once_different, count-absent}
+use Rattle.laws.proofs.CountLaws.{count_none, count-append, mem-count, count-before, different_once, once_all_different, count-absent}
 use Rattle.page.specs.PageSize.{IsPageSize, capacity}
 use Rattle.page.specs.Pages.{page_count, page_at}
 use Rattle.page.specs.Growth.{max_bump}
 use Rattle.free_list.specs.ListPages.{prev_of, entries_of}
 use Rattle.free_list.specs.Shape.{FreeList, head_of}
 use Rattle.free_list.specs.StoredList.{StoredList}
+use Rattle.free_list.proofs.RepeatsLaws.{read_differing}
 use Rattle.free_list.proofs.StoredLaws.{read_stored}
 use Rattle.preallocate.specs.Plan.{Plan, plan_of}
 use Rattle.preallocate.proofs.PlanLaws.{plan_bump, plan_kept}
 use Rattle.allocator.specs.OpenSave.{Save, bumped}
-use Rattle.finisher.specs.Finish.{new_list, encoded_page, Finished, carried_out}
-use Rattle.finisher.specs.Theorems.{DistinctBelow}
+use Rattle.finisher.specs.Finish.{new_list, left_list, encoded_page, Finished, carried_out}
+use Rattle.finisher.proofs.NewNumbersLaws.{DistinctBelow}
 use Rattle.finisher.proofs.FreshLaws.{Between}
 use Rattle.finisher.proofs.CountLaws.{conserved}
-use Rattle.finisher.proofs.NewNumbersLaws.{new_entry, pages-below}
-use Rattle.finisher.proofs.ReadBackLaws.{good_freed, new-stored}
+use Rattle.finisher.proofs.TablesLaws.{good_freed}
+use Rattle.finisher.proofs.FinishedLaws.{left_distinct, finish_differs}
+use Rattle.finisher.proofs.ReadBackLaws.{new-stored}
 use Rattle.finisher.proofs.FinishLaws.{Succeeds, succeeds, finish_cases}
 use Rattle.rollback.specs.Calls.{Run}
-use Rattle.rollback.specs.Rollback.{GetsList, Value, GetsValue, State, Good, Cut, run_of}
+use Rattle.rollback.specs.Rollback.{Made, GetsList, Value, GetsValue, State, Good, Cut, run_of}
 use Rattle.rollback.specs.Seasons.{Saved, Season, back, onward, SeasonsGood, EveryCut}
 use Rattle.rollback.proofs.ReadersLaws.{gets_list}
 use Rattle.rollback.proofs.CallsLaws.{Handed, Ran}
-use Rattle.rollback.proofs.WritesLaws.{distinct_below, carried_mem}
-use Rattle.rollback.proofs.RollbackLaws.{head_first, stored_first, Left, cut-ran, cut_left, more-pages, rollback}
+use Rattle.rollback.proofs.WritesLaws.{carried_mem}
+use Rattle.rollback.proofs.RollbackLaws.{below_first, differ_first, head_first, stored_first, Left, cut-ran, cut_left, more-pages, rollback}
 
 -- an entry that was handed out is among the last ones
 between_last : (ns : List ℕ) (h k n : ℕ) → k ≡ min h (length ns) → Between ns (length ns - h) (length ns) n → 1 ≤ count n (drop (length ns - k) ns)
@@ -93,8 +94,15 @@ module _ {s : ℕ} (size : IsPageSize s) {a b : State} (first : Good s a) (c : C
   left : Left size first after
   left = cut_left size first c
 
-  distinct : DistinctBelow l up
-  distinct = distinct_below first.different (λ n m. omega (arith, first.below n m, up_is)) (omega (arith, done.stands.some))
+  -- the list's numbers differ, as it was read; of what is left of it the finish has seen all that its list needs
+  once : (x : ℕ) → count x (l.pages ++ l.entries) ≤ 1
+  once = different_once (l.pages ++ l.entries) (differ_first size first)
+
+  distinct : DistinctBelow (left_list k l) up
+  unfolding k
+  distinct =
+      let pops : L - v.handed ≡ L - k = omega arith in
+      rw pops at (subst (λ (m : FreeList). DistinctBelow (left_list v.handed m) up) ran.of.list (left_distinct done))
 
   freed_good : (n : ℕ) → Memᴰ n freed → (1 ≤ n) × (n < up)
   freed_good = good_freed up freed done.good
@@ -111,7 +119,7 @@ module _ {s : ℕ} (size : IsPageSize s) {a b : State} (first : Good s a) (c : C
   not_listed x none = sym (count-append x l.pages l.entries) ∙ count-absent x (l.pages ++ l.entries) none
 
   none_past : (x : ℕ) → a.bump ≤ x → count_listed x ≡ 0
-  none_past x p = not_listed x (λ m. omega (arith, first.below x m))
+  none_past x p = not_listed x (λ m. omega (arith, below_first size first x m))
 
   -- a number in use: below the bump, and not in the list once the entries handed out are off it
   record Used (x : ℕ) : Type 0 where
@@ -121,13 +129,13 @@ module _ {s : ℕ} (size : IsPageSize s) {a b : State} (first : Good s a) (c : C
   -- what was handed out is
   handed_used : (x : ℕ) → Handed l a.bump v.handed x → Used x
   unfolding k
-  handed_used x (inl t) = record { off = omega (arith, distinct.once x, between_last l.entries v.handed k x refl t); below = under t }
+  handed_used x (inl t) = record { off = omega (arith, once x, count-append x l.pages l.entries, between_last l.entries v.handed k x refl t); below = under t }
     where
       under : Between l.entries (L - v.handed) L x → x < up
-      under (i, p, q, e) = omega (arith, e, up_is, first.below _ (Memᴰ.append_right l.pages (get_d-mem l.entries i q)))
+      under (i, p, q, e) = omega (arith, e, up_is, below_first size first _ (Memᴰ.append_right l.pages (get_d-mem l.entries i q)))
   handed_used x (inr t) = record { off = omega (arith, none_past x t.0); below = omega (arith, t.1, up_is) }
 
-  -- so are the values' numbers,
+  -- so are the values' numbers
   value_used : (x : Value) → Memᴰ x b.values → (n : ℕ) → Memᴰ n x.numbers → Used n
   value_used x m n i = go (saved.values x m)
     where
@@ -135,19 +143,24 @@ module _ {s : ℕ} (size : IsPageSize s) {a b : State} (first : Good s a) (c : C
       go (inl old) = record { off = omega (arith, not_listed n (first.values_apart x old n i)); below = omega (arith, first.values_below x old n i, up_is) }
       go (inr new) = handed_used n (ran.numbers n (new.1 n i))
 
-  -- and the freed ones
-  freed_used : (x : ℕ) → Memᴰ x freed → Used x
-  freed_used x m = go (dec_lt 0 (count x l.entries))
-    where
-      go : Dec (0 < count x l.entries) → Used x
-      go (yes y) = handed_used x (ran.numbers x ((saved.freed x m).2 (count-mem x l.entries (omega arith))))
-      go (no n) = record { off = omega (arith, count-absent x l.pages (saved.freed x m).1); below = (freed_good x m).1 }
-
   -- ---- what is to be shown of the list that the finish makes
+
+  finish_seen : Different (f.list.pages ++ f.list.entries) × ((x : ℕ) → Memᴰ x (f.list.pages ++ f.list.entries) → x < f.bump)
+  finish_seen =
+      let (room, e) = ran.finishes f (subst (Memᴰ f) (sym saved.finished) (Memᴰ.head refl)) in
+      finish_differs size v freed room f e
+
+  finish_differ : all_different (f.list.pages ++ f.list.entries) ≡ true
+  finish_differ = once_all_different (f.list.pages ++ f.list.entries) (different_once (f.list.pages ++ f.list.entries) finish_seen.0)
+
+  -- its list is one that a finish made
+  made : Made s b.list b.bump
+  made =
+      let (room, e) = ran.finishes f (subst (Memᴰ f) (sym saved.finished) (Memᴰ.head refl)) in
+      (v, freed, room, f, e, saved.becomes.1, saved.becomes.2)
 
   record NewGood (m : FreeList) (bump : ℕ) : Type 0 where
     reads : GetsList s after (head_of m) m
-    different : DistinctBelow m bump
     raised : up ≤ bump
     apart : (x : ℕ) → Used x → count x freed ≡ 0 → count x m.pages + count x m.entries ≡ 0
 
@@ -163,8 +176,7 @@ module _ {s : ℕ} (size : IsPageSize s) {a b : State} (first : Good s a) (c : C
       record {
         reads = subst (λ (p : ℕ). GetsList s after p b.list) (sym (saved.becomes.0 ∙ ap head_of (sym saved.becomes.1))) g.reads;
         each = values_read;
-        different = once_different (b.list.pages ++ b.list.entries) (λ x. omega (arith, g.different.once x, counted x));
-        below = λ n m. under n (Memᴰ.append_cases b.list.pages m);
+        below = inl made;
         values_below = λ x m n i. omega (arith, (value_used x m n i).below, g.raised);
         values_apart = λ x m n i t. omega (
           arith,
@@ -177,17 +189,12 @@ module _ {s : ℕ} (size : IsPageSize s) {a b : State} (first : Good s a) (c : C
       counted : (x : ℕ) → count x (b.list.pages ++ b.list.entries) ≡ count x b.list.pages + count x b.list.entries
       counted x = count-append x b.list.pages b.list.entries
 
-      under : (n : ℕ) → Memᴰ n b.list.pages ⊎ Memᴰ n b.list.entries → n < b.bump
-      under n (inl m) = g.different.pages_under n m
-      under n (inr m) = g.different.entries_under n m
-
   -- nothing was popped and nothing freed: the list is the first one
   same_good : k ≡ 0 → NewGood l up
   same_good none =
       let no-entry : drop (L - k) l.entries ≡ [] = drop_of_length-le l.entries {i = L - k} (omega arith) in
       record {
         reads = subst (λ (p : ℕ). GetsList s after p l) (head_first size first) (rollback size a after first c).0;
-        different = distinct;
         raised = omega arith;
         apart = λ x u e. omega (arith, u.off, ap (count x) no-entry, count_none x);
       }
@@ -224,38 +231,23 @@ module _ {s : ℕ} (size : IsPageSize s) {a b : State} (first : Good s a) (c : C
     counted : (x : ℕ) → count x new.pages + count x new.entries + count_popped x ≡ count_listed x + count x freed + count x (numbers_from up (plan.bump - up))
     counted x = conserved (capacity s) (omega (arith, size.two_entries)) l k freed up stored.shape x
 
-    new_once : (x : ℕ) → count x new.pages + count x new.entries ≤ 1
-    new_once x = go (dec_lt 0 (count x freed)) (dec_lt x a.bump)
-      where
-        go : Dec (0 < count x freed) → Dec (x < a.bump) → count x new.pages + count x new.entries ≤ 1
-        go (yes y) d =
-            let u = freed_used x (count-mem x freed (omega arith)) in
-            omega (arith, counted x, u.off, different_once freed saved.different x, count-before x up (plan.bump - up) u.below)
-        go (no n) (yes y) = omega (arith, counted x, distinct.once x, count-before x up (plan.bump - up) (omega (arith, up_is)))
-        go (no n) (no z) = omega (arith, counted x, none_past x (omega arith), count_once x up (plan.bump - up))
-
     raised : up ≤ plan.bump
     raised = plan_bump (capacity s) l size.two_entries stored.shape k freed up
 
-    entry_under : (x : ℕ) → Memᴰ x l.entries ⊎ (Memᴰ x l.pages ⊎ Memᴰ x freed) → x < plan.bump
-    entry_under x (inl e) = omega (arith, distinct.entries_under x e, raised)
-    entry_under x (inr (inl e)) = omega (arith, distinct.pages_under x e, raised)
-    entry_under x (inr (inr e)) = omega (arith, (freed_good x e).1, raised)
+    -- they all differ
+    new_differ : f ≡ carried_out s l plan → all_different (new.pages ++ new.entries) ≡ true
+    unfolding carried_out
+    new_differ e = subst (λ (g : Finished). all_different (g.list.pages ++ g.list.entries) ≡ true) e finish_differ
 
     changed_good : f ≡ carried_out s l plan → plan.bump ≤ max_bump → NewGood new plan.bump
     changed_good e limit =
         record {
           reads = gets_list s after (head_of new) new
+              (read_differing s after (head_of new)
               (read_stored s after new size.two_entries
               (new-stored s size l k freed up a.store stored distinct kL changed (omega (arith, limit)) after (more-pages size first left)
-              (λ n m. ((freed_good n m).0, (saved.freed n m).0)) kept_same (pages_found e)));
-          different =
-              record {
-                once = new_once;
-                pages_under = pages-below (capacity s) l k freed up size.two_entries stored.shape distinct;
-                entries_under = λ x m. entry_under x (new_entry (capacity s) l k freed up size.two_entries stored.shape x m);
-                bump_some = omega (arith, distinct.bump_some, raised);
-              };
+              (λ n m. ((freed_good n m).0, saved.freed n m)) kept_same (pages_found e)))
+              (new_differ e));
           raised = raised;
           apart = λ x u none. omega (arith, counted x, u.off, none, count-before x up (plan.bump - up) u.below);
         }
@@ -278,7 +270,7 @@ back_good : {s : ℕ} → IsPageSize s → {a : State} {after : List ℕ} → Go
     → Good s (record { store = after; head = a.head; list = a.list; values = a.values; bump = a.bump })
 back_good size {a} {after} first c =
     let r = rollback size a after first c in
-    record { reads = r.0; each = r.1; different = first.different; below = first.below; values_below = first.values_below; values_apart = first.values_apart }
+    record { reads = r.0; each = r.1; below = first.below; values_below = first.values_below; values_apart = first.values_apart }
 
 -- After each save, cut or whole, the caller stands as at the first one.
 pub season_good : {s : ℕ} → IsPageSize s → {a b : State} → Good s a → Season s a b → Good s b

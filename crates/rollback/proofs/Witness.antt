@@ -12,6 +12,8 @@ use lib.Dec.{ltb, eqb}
 use lib.ListN.{length, get_or}
 use borrow.Author.Tests.{ltb-true, eqb-false, not-true}
 use Rattle.refusal.specs.Outcome.{answer, refused}
+use Rattle.laws.specs.Counting.{count, all_different, all_below}
+use Rattle.bit_map.specs.BitMap.{bytes_in_use, cleared}
 use Rattle.laws.proofs.Tests.{and-true}
 use Rattle.laws.proofs.PlacesLaws.{get_d-mem}
 use Rattle.page.specs.Bytes.{number_at, bytes_of, numbers_at, bytes_of_all}
@@ -29,7 +31,7 @@ use Rattle.overflow.specs.Kept.{Kept}
 use Rattle.overflow.specs.Reading.{in_store, parse_page, walk, value_total, admitted, read_value_into}
 use Rattle.preallocate.specs.Plan.{pages_for, room, pages_after, pushed_after, first_plan, next_plan, enough_room, plan_of}
 use Rattle.allocator.specs.OpenSave.{state_fits, next_number, next_recorded, hand_out}
-use Rattle.finisher.specs.Finish.{new_list, encoded_page, encoded_pages, Finished, carried_out, finish_list, first_bad, finished, finish}
+use Rattle.finisher.specs.Finish.{new_list, encoded_page, encoded_pages, Finished, carried_out, finish_list, first_bad, finished, admitted as admitted_finish, fitted, finish}
 use Rattle.rollback.specs.Calls.{open_on, Run, run}
 use Rattle.rollback.specs.Rollback.{Value, GetsValue, Good, ToWrite, value_page as any_page, list_page, Cut}
 use Rattle.rollback.specs.Seasons.{Saved, Season, onward}
@@ -97,7 +99,7 @@ new_kept =
 -- ---- the first save
 
 reads : read_list small store 1 ≡ answer first.list
-unfolding store first list_from read_from page_count page_at capacity prev_of count_of entries_of encode_list_page count_fits all_entries_fit number_at numbers_at bytes_of bytes_of_all encode_value_page
+unfolding store first count all_different list_from read_from page_count page_at capacity prev_of count_of entries_of encode_list_page count_fits all_entries_fit number_at numbers_at bytes_of bytes_of_all encode_value_page
 reads = refl
 
 good : Good small first
@@ -106,8 +108,7 @@ good =
     record {
       reads = gets_list small store 1 _ reads;
       each = of_one (value_at 4 bytes) (GetsValue small store) (written-value size store (new_total small (length bytes)) bytes (4 ∷ []) (inl refl) kept hash refl);
-      different = (absent 1 (2 ∷ 3 ∷ []) refl, (absent 2 (3 ∷ []) refl, (absent 3 [] refl, tt)));
-      below = below 5 (1 ∷ 2 ∷ 3 ∷ []) refl;
+      below = inr (below 5 (1 ∷ 2 ∷ 3 ∷ []) refl);
       values_below = of_one (value_at 4 bytes) (λ (x : Value). (n : ℕ) → Memᴰ n x.numbers → n < 5) (below 5 (4 ∷ []) refl);
       values_apart = of_one (value_at 4 bytes) (λ (x : Value). (n : ℕ) → Memᴰ n x.numbers → Memᴰ n (1 ∷ 2 ∷ 3 ∷ []) → ⊥) apart;
     }
@@ -123,16 +124,24 @@ result = record { list = list (2 ∷ []) (4 ∷ 1 ∷ []); bump = 5; written = l
 abbrev made : Run
 made = record { numbers = 3 ∷ []; finished = result ∷ []; freed = 4 ∷ [] }
 
-short_tables : finish small (open_on first.list first.bump 0 (own [] [])) (4 ∷ []) (room_for 64 4) ≡ refused 6 []
-unfolding first state_fits is_shape is_fragmented capacity first_bad new_list entries_below carried_out finish_list finished finish pages_for room pages_after pushed_after first_plan next_plan enough_room plan_of
+short_map : finish small (open_on first.list first.bump 0 (own [] [])) (4 ∷ []) (room_for 64 4 0) ≡ refused 21 []
+unfolding first state_fits is_shape is_fragmented capacity bytes_in_use first_bad new_list carried_out finish_list finished admitted_finish fitted finish pages_for room pages_after pushed_after first_plan next_plan enough_room plan_of
+short_map = refl
+
+freed_twice : finish small (open_on first.list first.bump 1 (own [] [])) (4 ∷ 4 ∷ []) (room_for 64 4 1) ≡ refused 22 []
+unfolding first state_fits is_shape is_fragmented capacity count all_different all_below bytes_in_use first_bad new_list carried_out finish_list finished admitted_finish fitted finish pages_for room pages_after pushed_after first_plan next_plan enough_room plan_of
+freed_twice = refl
+
+short_tables : finish small (open_on first.list first.bump 0 (own [] [])) (4 ∷ []) (room_for 64 4 1) ≡ refused 6 []
+unfolding first state_fits is_shape is_fragmented capacity count all_different all_below bytes_in_use first_bad new_list entries_below carried_out finish_list finished admitted_finish fitted finish pages_for room pages_after pushed_after first_plan next_plan enough_room plan_of
 short_tables = refl
 
-short_room : finish small (open_on first.list first.bump 1 (own [] [])) (4 ∷ []) (room_for 15 1) ≡ refused 9 []
-unfolding first state_fits is_shape is_fragmented capacity first_bad new_list encoded_pages carried_out finish_list finished finish pages_for room pages_after pushed_after first_plan next_plan enough_room plan_of
+short_room : finish small (open_on first.list first.bump 1 (own [] [])) (4 ∷ []) (room_for 15 1 1) ≡ refused 9 []
+unfolding first state_fits is_shape is_fragmented capacity count all_different all_below bytes_in_use first_bad new_list encoded_pages carried_out finish_list finished admitted_finish fitted finish pages_for room pages_after pushed_after first_plan next_plan enough_room plan_of
 short_room = refl
 
 made_so : run small first.list first.bump 0 calls ≡ made
-unfolding first run hand_out state_fits is_shape is_fragmented capacity next_number next_recorded grown rounded_up first_bad new_list entries_below entries_on encoded_page encoded_pages carried_out finish_list finished finish pages_for room pages_after pushed_after first_plan next_plan enough_room plan_of
+unfolding first run hand_out state_fits is_shape is_fragmented capacity next_number next_recorded grown rounded_up count all_different all_below bytes_in_use first_bad new_list entries_below entries_on encoded_page encoded_pages carried_out finish_list finished admitted_finish fitted finish pages_for room pages_after pushed_after first_plan next_plan enough_room plan_of
 made_so = refl
 
 written : Cut small first second.store
@@ -158,9 +167,7 @@ saved_made =
       finished = refl;
       becomes = (refl, refl, refl);
       written = of_one (list_page_at 2 (4 ∷ 1 ∷ [])) (λ (w : Write). (w.number < page_count small second.store) × (page_at small second.store w.number ≡ w.bytes)) (omega arith, refl);
-      different = (absent 4 [] refl, tt);
-      freed = of_one 4 (λ (n : ℕ). (n < page_count small second.store) × (Memᴰ n (1 ∷ []) → ⊥) × (Memᴰ n (2 ∷ 3 ∷ []) → Memᴰ n (3 ∷ [])))
-          (omega arith, absent 4 (1 ∷ []) refl, λ m. absurd (absent 4 (2 ∷ 3 ∷ []) refl m));
+      freed = of_one 4 (λ (n : ℕ). n < page_count small second.store) (omega arith);
       values = λ x m. inr (of_one (value_at 3 new_bytes) (λ (y : Value). GetsValue small second.store y × ((n : ℕ) → Memᴰ n y.numbers → Memᴰ n (3 ∷ [])))
           (written-value size second.store (new_total small (length new_bytes)) new_bytes (3 ∷ []) (inl refl) new_kept hash refl, λ n k. k) x m);
       not_freed = of_one (value_at 3 new_bytes) (λ (x : Value). (n : ℕ) → Memᴰ n x.numbers → Memᴰ n (4 ∷ []) → ⊥)
@@ -226,7 +233,7 @@ long_kept =
     each = ((((((((((((((((((tt, refl), refl), refl), refl), refl), refl), refl), refl), refl), refl), refl), refl), refl), refl), refl), refl), refl), refl)
 
 long_reads : read_list small long_store 1 ≡ answer long.list
-unfolding long_store long_pages long list_from read_from page_count page_at capacity prev_of count_of entries_of encode_list_page count_fits all_entries_fit number_at numbers_at bytes_of bytes_of_all value_page encode_value_page numbers_before numbers_on bytes_before bytes_on
+unfolding long_store long_pages long count all_different list_from read_from page_count page_at capacity prev_of count_of entries_of encode_list_page count_fits all_entries_fit number_at numbers_at bytes_of bytes_of_all value_page encode_value_page numbers_before numbers_on bytes_before bytes_on
 long_reads = refl
 
 long_good : Good small long
@@ -235,8 +242,7 @@ long_good =
     record {
       reads = gets_list small long_store 1 _ long_reads;
       each = of_one long_value (GetsValue small long_store) (written-value size long_store (new_total small 203) long_bytes long_numbers (inl refl) long_kept hash refl);
-      different = (absent 1 (20 ∷ []) refl, (absent 20 [] refl, tt));
-      below = below 21 (1 ∷ 20 ∷ []) refl;
+      below = inr (below 21 (1 ∷ 20 ∷ []) refl);
       values_below = of_one long_value (λ (x : Value). (n : ℕ) → Memᴰ n x.numbers → n < 21) (below 21 long_numbers refl);
       values_apart = of_one long_value (λ (x : Value). (n : ℕ) → Memᴰ n x.numbers → Memᴰ n (1 ∷ 20 ∷ []) → ⊥) apart;
     }
@@ -251,12 +257,14 @@ long_good =
 -- ---- all of it
 
 pub witnessed : Witnessed
-unfolding cut_store store write_pages write_page page_count page_at capacity number_at numbers_at bytes_of bytes_of_all prev_of count_of entries_of encode_list_page count_fits all_entries_fit read_from list_from read_list_into encode_value_page read_value_into admitted decode_cell cell_of cell_size cell_count cell_bytes in_store walk value_total parse_page max_size holds first_from new_total old_total raw_pages long_store long_pages value_page numbers_before numbers_on bytes_before bytes_on number_count byte_count value_numbers value_bytes
+unfolding cut_store store count all_different bytes_in_use cleared write_pages write_page page_count page_at capacity number_at numbers_at bytes_of bytes_of_all prev_of count_of entries_of encode_list_page count_fits all_entries_fit read_from list_from read_list_into encode_value_page read_value_into admitted decode_cell cell_of cell_size cell_count cell_bytes in_store walk value_total parse_page max_size holds first_from new_total old_total raw_pages long_store long_pages value_page numbers_before numbers_on bytes_before bytes_on number_count byte_count value_numbers value_bytes
 witnessed =
     record {
       good = good;
       next = next;
+      short_map = short_map;
       short_tables = short_tables;
+      freed_twice = freed_twice;
       short_room = short_room;
       cut = cut;
       list_read = refl;

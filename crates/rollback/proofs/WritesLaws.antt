@@ -5,14 +5,14 @@ use mathlib.Core.Path.{◌≡◌, refl, sym, ◌∙◌, ap, subst}
 use mathlib.Core.Logic.{◌⊎◌, inl, inr}
 use mathlib.Core.Bool.{false, ◌&&◌}
 use mathlib.Core.List.Memᴰ
-use mathlib.Core.List.{List, ◌∷◌, ◌++◌, Memᴰ}
+use mathlib.Core.List.{List, ◌∷◌, Memᴰ}
 use native.Mathlib.Decide.{dec_lt}
 use native.Mathlib.Omega.{arith}
 use lib.Dec.{eqb}
 use lib.ListN.{length, get_or}
-use Rattle.laws.specs.Counting.{count, Different}
+use Rattle.laws.specs.Counting.{count}
 use Rattle.laws.proofs.PlacesLaws.{get_d-mem, at_places}
-use Rattle.laws.proofs.CountLaws.{count-append, mem-count, count-mem, count_within_lem, different_once}
+use Rattle.laws.proofs.CountLaws.{mem-count, count-mem, count_split, count_within_lem}
 use Rattle.page.specs.PageSize.{IsPageSize, capacity}
 use Rattle.page.specs.Pages.{page_count, page_at, Write}
 use Rattle.page.proofs.PagesLaws.{page_count_fits}
@@ -22,25 +22,14 @@ use Rattle.free_list.specs.StoredList.{Inside, StoredList}
 use Rattle.preallocate.specs.Plan.{Plan, plan_of}
 use Rattle.preallocate.proofs.PlanLaws.{plan_kept}
 use Rattle.allocator.specs.OpenSave.{Save, list_of, bumped}
-use Rattle.finisher.specs.Finish.{new_list, encoded_page, encoded_pages, Finished, carried_out}
-use Rattle.finisher.specs.Theorems.{DistinctBelow}
+use Rattle.finisher.specs.Finish.{new_list, left_list, encoded_page, encoded_pages, Finished, carried_out}
 use Rattle.finisher.proofs.NewShapeLaws.{new_shape}
-use Rattle.finisher.proofs.NewNumbersLaws.{count_new_pages}
+use Rattle.finisher.proofs.NewNumbersLaws.{DistinctBelow, count_new_pages}
 use Rattle.finisher.proofs.EncodedLaws.{encoded_long, decoded-before, decoded-entries}
 use Rattle.finisher.proofs.WrittenLaws.{written_old}
 use Rattle.finisher.proofs.FinishLaws.{list_shape, Succeeds, finish_cases}
+use Rattle.finisher.proofs.FinishedLaws.{left_distinct}
 use Rattle.rollback.proofs.CallsLaws.{Free, OpenedOn}
-
--- numbers that differ are counted once at most
-pub distinct_below : {l : FreeList} {bump : ℕ} → Different (l.pages ++ l.entries)
-    → ((n : ℕ) → Memᴰ n (l.pages ++ l.entries) → n < bump) → 1 ≤ bump → DistinctBelow l bump
-distinct_below {l} different below some =
-    record {
-      once = λ x. omega (arith, different_once (l.pages ++ l.entries) different x, count-append x l.pages l.entries);
-      pages_under = λ x m. below x (Memᴰ.append_left l.entries m);
-      entries_under = λ x m. below x (Memᴰ.append_right l.pages m);
-      bump_some = some;
-    }
 
 -- ---- the pages that are carried out
 
@@ -120,7 +109,7 @@ module _ {s : ℕ} (size : IsPageSize s) {store : List ℕ} {l : FreeList} (stor
         entries = stored.entries i h ∙ sym (decoded-entries s size l stored.shape i h pages_fit entries_fit);
       }
 
-  module _ (k : ℕ) (freed : List ℕ) (bump up : ℕ) (raised : bump ≤ up) (distinct : DistinctBelow l up)
+  module _ (k : ℕ) (freed : List ℕ) (bump up : ℕ) (raised : bump ≤ up) (distinct : DistinctBelow (left_list k l) up)
       (kL : k ≤ length l.entries) (changed : eqb k 0 && eqb (length freed) 0 ≡ false) where
     abbrev plan : Plan
     plan = plan_of (capacity s) l k freed up
@@ -143,7 +132,7 @@ module _ {s : ℕ} (size : IsPageSize s) {store : List ℕ} {l : FreeList} (stor
         go : Dec (0 < count n l.entries) → Free l bump n
         go (yes y) = inl (count-mem n l.entries (omega arith))
         go (no y) =
-            let past = count_within_lem n up (plan.bump - up) (omega (arith, mem-count n new.pages m, count_new_pages (capacity s) l k freed up size.two_entries stored.shape n)) in
+            let past = count_within_lem n up (plan.bump - up) (omega (arith, mem-count n new.pages m, count_new_pages (capacity s) l k freed up size.two_entries stored.shape n, count_split n (length l.entries - k) l.entries)) in
             inr (omega (arith, past.0))
 
     page_apart : (i : ℕ) → plan.kept ≤ i + 1 → i < length new.pages → Apart s store l bump (encoded_page s new i)
@@ -154,13 +143,13 @@ module _ {s : ℕ} (size : IsPageSize s) {store : List ℕ} {l : FreeList} (stor
         go (yes y) = let old = count-mem (get_or new.pages i 0) l.pages (omega arith) in inr (old, page-old i a b old)
         go (no y) = inl (page_new (get_or new.pages i 0) (get_d-mem new.pages i b) y)
 
-  -- what a finish of a save of the first list writes
-  pub finish_writes : {bump : ℕ} → Different (l.pages ++ l.entries) → ((n : ℕ) → Memᴰ n (l.pages ++ l.entries) → n < bump)
-      → {v : Save} → OpenedOn l bump v → {freed : List ℕ} {f : Finished} → Succeeds s v freed f → (w : Write) → Memᴰ w f.written → MayWrite s store l bump w
-  finish_writes {bump} different below {v} of {freed} done w m =
+  -- what a finish of a save of the first list writes: of the list's numbers no more is asked than what it has seen
+  pub finish_writes : {bump : ℕ} {v : Save} → OpenedOn l bump v → {freed : List ℕ} {f : Finished} → Succeeds s v freed f → (w : Write) → Memᴰ w f.written → MayWrite s store l bump w
+  finish_writes {bump} {v} of {freed} done w m =
       let k = min v.handed (length l.entries) in
       let raised : bump ≤ bumped v = omega (arith, of.start) in
-      let distinct : DistinctBelow l (bumped v) = distinct_below different (λ n h. omega (arith, below n h)) (omega (arith, done.stands.some)) in
+      let pops : length l.entries - v.handed ≡ length l.entries - k = omega arith in
+      let distinct : DistinctBelow (left_list k l) (bumped v) = rw pops at (subst (λ (m : FreeList). DistinctBelow (left_list v.handed m) (bumped v)) of.list (left_distinct done)) in
       record {
         whole = written_whole done size w m;
         apart = finish_cases done of.list (λ (x : Finished). Memᴰ w x.written → Apart s store l bump w) k refl (λ _ _ h. absurd (Memᴰ.not-nil h))

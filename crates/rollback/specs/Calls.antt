@@ -30,7 +30,7 @@ open_on l bump n own =
       handed = n;
     }
 
--- hand out a number; or finish, with these numbers freed and so much room lent for the pages to write
+-- hand out a number; or finish, with these numbers freed, so much room lent for the pages to write, and a map of so many bytes
 pub data Call : Type 0 where
   hand_out_call : Own → Call
   finish_call : Own → List ℕ → RoomLent → Call

@@ -3,10 +3,11 @@
 use Rattle.std.specs.Prelude.{ℕ, ◌<◌, ◌≡◌, true, false, length}
 use mathlib.Core.List.{List, [], ◌∷◌, ◌++◌, map, Memᴰ}
 use Rattle.refusal.specs.Outcome.{Outcome, answer, refused}
-use Rattle.refusal.specs.Effect.{Effect}
-use Rattle.page.specs.Pages.{Write, write_pages}
+use Rattle.refusal.specs.Effect.{Effect, effect}
+use Rattle.page.specs.Pages.{page_count, Write, write_pages}
 use Rattle.free_list.specs.Shape.{FreeList, head_of}
-use Rattle.free_list.specs.Reading.{ListTables, has_room, read_list_into}
+use Rattle.bit_map.specs.BitMap.{has_bits}
+use Rattle.free_list.specs.Reading.{ListSize, size_of, ListTables, ListLent, has_room, read_list_into}
 use Rattle.overflow.specs.Totals.{IsTotal}
 use Rattle.overflow.specs.Cells.{hash_size, cell_bytes}
 use Rattle.overflow.specs.Kept.{Kept, cell_for}
@@ -97,10 +98,16 @@ pub record IsRun (s : ℕ) (made : List CodeCall) (r : Run) : Type 0 where
 abbrev pub CodeRuns : ℕ → Type 0
 CodeRuns s = (l : FreeList) (bump n : ℕ) (made : List CodeCall) → Follows s l bump n made → (calls : List Call) × IsRun s made (run s l bump n calls)
 
+-- one read that answers is enough for `GetsList`: it has found a list, which every reader with this head gets, and its tables have it at the front
+abbrev pub ReadGets : ℕ → Type 0
+ReadGets s = (store : List ℕ) (head : ℕ) (lent after : ListLent) (size : ListSize) → read_list_into s store false head lent ≡ effect (answer size) after
+    → (l : FreeList) × GetsList s store head l × (size ≡ size_of l) × (behind : ListTables) × (after.tables ≡ in_front l behind)
+
 -- a save is opened with the tables that its list was read into
 abbrev pub ReadOpens : ℕ → Type 0
-ReadOpens s = (store : List ℕ) (head : ℕ) (l : FreeList) → GetsList s store head l → (t : ListTables) → has_room t l ≡ true
-    → (behind : ListTables) × ((read_list_into s store false head t).lent ≡ in_front l behind)
+ReadOpens s = (store : List ℕ) (head : ℕ) (l : FreeList) → GetsList s store head l
+    → (t : ListLent) → has_room t.tables l ≡ true → has_bits (page_count s store) (length t.map) ≡ true
+    → (behind : ListTables) × ((read_list_into s store false head t).lent.tables ≡ in_front l behind)
 
 -- a value whose pages, as a writer makes them by the one total or the other, stand in the store at their numbers, is one that its reader gets by
 -- its cell: size, hash, numbers and bytes

@@ -1,22 +1,26 @@
 -- Document 01's demand 3, at pages of s bytes: what a reader with the first head and the first cells gets after a cut of the second save.
-use Rattle.std.specs.Prelude.{ℕ, ◌<◌, ◌≤◌, ◌≡◌, true, false, length}
+use Rattle.std.specs.Prelude.{ℕ, ◌⊎◌, ◌<◌, ◌≤◌, ◌≡◌, true, false, length}
 use mathlib.Core.List.{List, ◌++◌, Memᴰ}
 use Rattle.std.proofs.lemmas.List.Edits.{sets}
-use Rattle.laws.specs.Counting.{Different}
+use Rattle.bit_map.specs.BitMap.{has_bits}
 use Rattle.refusal.specs.Outcome.{answer}
 use Rattle.refusal.specs.Effect.{effect}
-use Rattle.page.specs.Pages.{Write, write_pages}
+use Rattle.page.specs.Pages.{page_count, Write, write_pages}
 use Rattle.free_list.specs.Shape.{FreeList}
-use Rattle.free_list.specs.Reading.{size_of, ListTables, list_in, has_room, read_list_into}
+use Rattle.free_list.specs.Reading.{numbers_of, size_of, ListLent, list_lent_in, has_room, read_list_into}
 use Rattle.overflow.specs.Totals.{old_total}
 use Rattle.overflow.specs.Cells.{cell_count, decode_cell_into}
 use Rattle.overflow.specs.Reading.{ReadLent, read_value_into}
-use Rattle.finisher.specs.Finish.{Finished}
+use Rattle.allocator.specs.OpenSave.{Save}
+use Rattle.finisher.specs.Finish.{Finished, RoomLent, finish}
 use Rattle.rollback.specs.Calls.{Call, Run, run}
 
--- the reader with this head gets this list, into any tables with room for it: P and L, page numbers and entries in order
+-- the reader with this head gets this list, into any tables with room for it and with any map that has a bit for each page of the store: P and L,
+-- page numbers and entries in order
 abbrev pub GetsList : ℕ → List ℕ → ℕ → FreeList → Type 0
-GetsList s store head l = (t : ListTables) → has_room t l ≡ true → read_list_into s store false head t ≡ effect (answer (size_of l)) (list_in t l)
+GetsList s store head l =
+    (t : ListLent) → has_room t.tables l ≡ true → has_bits (page_count s store) (length t.map) ≡ true
+    → read_list_into s store false head t ≡ effect (answer (size_of l)) (list_lent_in (page_count s store) t l)
 
 -- a cell, and the value that it leads to: its hash, the numbers of its pages and its bytes
 pub record Value : Type 0 where
@@ -44,15 +48,18 @@ pub record State : Type 0 where
   pub values : List Value
   pub bump : ℕ
 
--- its list and its values read; the list's numbers, pages and entries, all differ and lie below the bump; the numbers of the values' pages
--- lie below the bump too, and are none of the list's
+-- a finish that answered has made this list, and this bump
+abbrev pub Made : ℕ → FreeList → ℕ → Type 0
+Made s l bump = (v : Save) × (freed : List ℕ) × (room : RoomLent) × (f : Finished) × (finish s v freed room ≡ answer f) × (l ≡ f.list) × (bump ≡ f.bump)
+
+-- its list and its values read; a finish has made the list, or the list's numbers, pages and entries, lie below the bump; the numbers of the values'
+-- pages lie below the bump, and are none of the list's
 pub record Good (s : ℕ) (a : State) : Type 0 where
   pub reads : GetsList s a.store a.head a.list
   pub each : (x : Value) → Memᴰ x a.values → GetsValue s a.store x
-  pub different : Different (a.list.pages ++ a.list.entries)
-  pub below : (n : ℕ) → Memᴰ n (a.list.pages ++ a.list.entries) → n < a.bump
+  pub below : Made s a.list a.bump ⊎ ((n : ℕ) → Memᴰ n (numbers_of a.list) → n < a.bump)
   pub values_below : (x : Value) → Memᴰ x a.values → (n : ℕ) → Memᴰ n x.numbers → n < a.bump
-  pub values_apart : (x : Value) → Memᴰ x a.values → (n : ℕ) → Memᴰ n x.numbers → Memᴰ n (a.list.pages ++ a.list.entries) → ⊥
+  pub values_apart : (x : Value) → Memᴰ x a.values → (n : ℕ) → Memᴰ n x.numbers → Memᴰ n (numbers_of a.list) → ⊥
 
 -- what may be written: any page at a number that was handed out, and the list pages of the finish that succeeded, each at its number
 pub data ToWrite (s : ℕ) (r : Run) (w : Write) : Type 0 where

@@ -1,22 +1,20 @@
 -- One save after another: what the caller of a save keeps to, so that the next save starts as this one did.
 use Rattle.std.specs.Prelude.{ℕ, ◌<◌, ◌≡◌, ◌⊎◌}
 use mathlib.Core.List.{List, [], ◌∷◌, Memᴰ}
-use Rattle.laws.specs.Counting.{Different}
 use Rattle.page.specs.Pages.{page_count, page_at, Write}
 use Rattle.free_list.specs.Shape.{head_of}
 use Rattle.finisher.specs.Finish.{Finished}
 use Rattle.rollback.specs.Calls.{Run}
 use Rattle.rollback.specs.Rollback.{Value, GetsValue, State, Good, Cut, run_of, StillReads}
 
--- The save was finished, and its list pages are in the store. Freed are different pages of the store, none a list page, nor an entry that
--- was not handed out. The values left are first ones, and new ones that read and whose pages were handed out; none of their pages is freed.
+-- The save was finished, and its list pages are in the store. Freed are pages of the store; that they differ, and that none is a list page or an entry
+-- that was not handed out, the finish has seen. The values left are first ones, and new ones that read and whose pages were handed out; none of
+-- their pages is freed.
 pub record Saved (s : ℕ) (a b : State) (r : Run) (f : Finished) : Type 0 where
   pub finished : r.finished ≡ f ∷ []
   pub becomes : (b.head ≡ head_of f.list) × (b.list ≡ f.list) × (b.bump ≡ f.bump)
   pub written : (w : Write) → Memᴰ w f.written → (w.number < page_count s b.store) × (page_at s b.store w.number ≡ w.bytes)
-  pub different : Different r.freed
-  pub freed : (n : ℕ) → Memᴰ n r.freed
-      → (n < page_count s b.store) × (Memᴰ n a.list.pages → ⊥) × (Memᴰ n a.list.entries → Memᴰ n r.numbers)
+  pub freed : (n : ℕ) → Memᴰ n r.freed → n < page_count s b.store
   pub values : (x : Value) → Memᴰ x b.values → Memᴰ x a.values ⊎ (GetsValue s b.store x × ((n : ℕ) → Memᴰ n x.numbers → Memᴰ n r.numbers))
   pub not_freed : (x : Value) → Memᴰ x b.values → (n : ℕ) → Memᴰ n x.numbers → Memᴰ n r.freed → ⊥
 

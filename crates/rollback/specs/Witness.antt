@@ -6,7 +6,7 @@ use Rattle.refusal.specs.Effect.{effect}
 use Rattle.page.specs.Pages.{Write, write_pages}
 use Rattle.free_list.specs.Shape.{FreeList}
 use Rattle.free_list.specs.ListPages.{encode_list_page}
-use Rattle.free_list.specs.Reading.{ListTables, read_list_into}
+use Rattle.free_list.specs.Reading.{ListTables, ListLent, read_list_into}
 use Rattle.overflow.specs.Totals.{new_total, old_total}
 use Rattle.overflow.specs.ValuePages.{encode_value_page, value_page}
 use Rattle.overflow.specs.Cells.{cell_bytes}
@@ -48,8 +48,12 @@ value_page_at number bytes = record { number = number; bytes = encode_value_page
 abbrev pub own : List ℕ → List ℕ → Own
 own pages entries = record { recorded = 6; behind = tables pages entries }
 
-abbrev pub room_for : ℕ → ℕ → RoomLent
-room_for bytes numbers = record { bytes = bytes; numbers = numbers }
+abbrev pub room_for : ℕ → ℕ → ℕ → RoomLent
+room_for bytes numbers map = record { bytes = bytes; numbers = numbers; map = map }
+
+-- what is lent to the reader: two tables, and a map of two bytes
+abbrev pub lent : List ℕ → List ℕ → List ℕ → ListLent
+lent pages entries map = record { tables = tables pages entries; map = map }
 
 -- ---- the first save: page 1 is its list page, with entries 2 and 3; page 4 holds a value of 5 bytes
 
@@ -62,19 +66,22 @@ store = replicate 16 0 ++ (encode_list_page small 0 (2 ∷ 3 ∷ []) ++ (replica
 unfoldable pub first : State
 first = record { store = store; head = 1; list = list (1 ∷ []) (2 ∷ 3 ∷ []); values = value_at 4 bytes ∷ []; bump = 5 }
 
--- ---- the second: a finish that is refused with 6, as its tables have no place behind the list; a number, which is 3; a finish that is
--- refused with 9; and, with longer tables and more room, one that frees the first value's page. Its list page is 2, with the freed number
--- and the old list page. A new value stands on page 3
+-- ---- the second. Its first finish is refused with 21: the map has no byte. Called again with one byte it is refused with 6: the tables have no
+-- place behind the list. Then it is handed a number, which is 3. The next finish is refused with 22: it frees a number twice. The next is refused
+-- with 9: it lacks a byte of room. The last has longer tables and more room, and frees the first value's page: its list page is 2, with the freed
+-- number and the old list page. A new value stands on page 3
 
 abbrev pub new_bytes : List ℕ
 new_bytes = 1 ∷ 2 ∷ 3 ∷ []
 
 abbrev pub calls : List Call
 calls =
-    finish_call (own [] []) (4 ∷ []) (room_for 64 4)
+    finish_call (own [] []) (4 ∷ []) (room_for 64 4 0)
+    ∷ finish_call (own [] []) (4 ∷ []) (room_for 64 4 1)
     ∷ hand_out_call (own [] [])
-    ∷ finish_call (own [] []) (4 ∷ []) (room_for 15 1)
-    ∷ finish_call (own (9 ∷ []) (9 ∷ 9 ∷ [])) (4 ∷ []) (room_for 16 1)
+    ∷ finish_call (own [] []) (4 ∷ 4 ∷ []) (room_for 64 4 1)
+    ∷ finish_call (own [] []) (4 ∷ []) (room_for 15 1 1)
+    ∷ finish_call (own (9 ∷ []) (9 ∷ 9 ∷ [])) (4 ∷ []) (room_for 16 1 2)
     ∷ []
 
 abbrev pub writes : List Write
@@ -137,21 +144,23 @@ pub record Witnessed : Type 0 where
   -- the first save is as asked, and the second follows it
   pub good : Good small first
   pub next : Season small first second
-  -- the second save's first finish is refused for its tables, and the next for its room
-  pub short_tables : finish small (open_on first.list first.bump 0 (own [] [])) (4 ∷ []) (room_for 64 4) ≡ refused 6 []
-  pub short_room : finish small (open_on first.list first.bump 1 (own [] [])) (4 ∷ []) (room_for 15 1) ≡ refused 9 []
+  -- the second save's first finish is refused for its map, the next for its tables, the next for a number freed twice, and the next for its room
+  pub short_map : finish small (open_on first.list first.bump 0 (own [] [])) (4 ∷ []) (room_for 64 4 0) ≡ refused 21 []
+  pub short_tables : finish small (open_on first.list first.bump 0 (own [] [])) (4 ∷ []) (room_for 64 4 1) ≡ refused 6 []
+  pub freed_twice : finish small (open_on first.list first.bump 1 (own [] [])) (4 ∷ 4 ∷ []) (room_for 64 4 1) ≡ refused 22 []
+  pub short_room : finish small (open_on first.list first.bump 1 (own [] [])) (4 ∷ []) (room_for 15 1 1) ≡ refused 9 []
   -- the third is cut, and then the second one's list and value are read
   pub cut : Cut small second cut_store
-  pub list_read : read_list_into small cut_store false 2 (tables (0 ∷ 0 ∷ []) (0 ∷ 0 ∷ 0 ∷ []))
-      ≡ effect (answer (record { P = 1; L = 2 })) (tables (2 ∷ 0 ∷ []) (4 ∷ 1 ∷ 0 ∷ []))
+  pub list_read : read_list_into small cut_store false 2 (lent (0 ∷ 0 ∷ []) (0 ∷ 0 ∷ 0 ∷ []) (9 ∷ 9 ∷ []))
+      ≡ effect (answer (record { P = 1; L = 2 })) (lent (2 ∷ 0 ∷ []) (4 ∷ 1 ∷ 0 ∷ []) (0 ∷ 9 ∷ []))
   pub value_read : read_value_into small (value_at 3 new_bytes).cell cut_store no_value
       ≡ effect (answer (record { size = 3; numbers = 1 })) (record { numbers = 3 ∷ 0 ∷ []; value = 1 ∷ 2 ∷ 3 ∷ 0 ∷ 0 ∷ [] })
   -- a finish that used the freed number 4 at once for its list page: the first value is lost, as a list page without one under it has the counts of
   -- an empty value page
   pub freed_reused : (read_value_into small (value_at 4 bytes).cell (write_pages small store (list_page_at 4 (2 ∷ 1 ∷ []) ∷ [])) no_value).outcome ≡ refused 25 (0 ∷ [])
   -- a finish that wrote its list page over the head: the first list is lost
-  pub head_in_place : read_list_into small (write_pages small store (list_page_at 1 (2 ∷ 4 ∷ []) ∷ [])) false 1 (tables (0 ∷ []) (0 ∷ 0 ∷ []))
-      ≡ effect (answer (record { P = 1; L = 2 })) (tables (1 ∷ []) (2 ∷ 4 ∷ []))
+  pub head_in_place : read_list_into small (write_pages small store (list_page_at 1 (2 ∷ 4 ∷ []) ∷ [])) false 1 (lent (0 ∷ []) (0 ∷ 0 ∷ []) (9 ∷ 9 ∷ []))
+      ≡ effect (answer (record { P = 1; L = 2 })) (lent (1 ∷ []) (2 ∷ 4 ∷ []) (0 ∷ 9 ∷ []))
   -- a value that has the new total, where this is one less than the old one, is one that a save may have; its reader asks for a place more than its
   -- numbers take
   pub new_less : new_total small 203 ≡ 18

@@ -1,7 +1,7 @@
 -- Document 01's marked samples at its page size, a row for each answer that they name. A row is about the definition that the operation's
 -- contract cites: what is answered, and every place of what is lent, after the call; bytes are written out. Document 01's totals are the old
--- ones; two rows are sums: that a page less would do. The new totals and the spare room are as document 02 has them, and the last two rows
--- are of its empty value page.
+-- ones; two rows are sums: that a page less would do. The new totals and the spare room are as document 02 has them, and so are the rows that
+-- are refused with 21 or 22, what the map holds, and the rows of the empty value page.
 use Rattle.std.specs.Prelude.{ℕ, ◌+◌, ◌*◌, ◌-◌, ◌^◌, ◌≡◌, false, List, [], ◌∷◌, ◌++◌, length, replicate}
 use Rattle.laws.specs.Counting.{numbers_from}
 use Rattle.refusal.specs.Outcome.{Outcome, answer, refused}
@@ -9,7 +9,7 @@ use Rattle.refusal.specs.Effect.{Effect, effect}
 use Rattle.page.specs.PageSize.{standard_page_size}
 use Rattle.page.specs.Growth.{grow}
 use Rattle.free_list.specs.Shape.{FreeList}
-use Rattle.free_list.specs.Reading.{ListTables, read_list_into}
+use Rattle.free_list.specs.Reading.{ListTables, ListLent, read_list_into}
 use Rattle.allocator.specs.OpenSave.{Save, Counters, count_up}
 use Rattle.finisher.specs.Finish.{FinishAnswer, FinishRoom, FinishLent, finish_into}
 use Rattle.overflow.specs.Totals.{Total, cell_numbers, old_total, body, page_total}
@@ -29,12 +29,23 @@ tables pages entries = record { pages = pages; entries = entries }
 
 -- ---- reading
 
--- a store of 22 pages with list page 10, which has entries 20, 21; all other bytes are zero
-abbrev pub store : List ℕ
-store =
+-- a store of 22 pages with list page 10, which has entries 20 and e; all other bytes are zero
+abbrev pub store_with : ℕ → List ℕ
+store_with e =
     replicate (standard_page_size * 10) 0
-    ++ (0 ∷ 0 ∷ 0 ∷ 0 ∷ 2 ∷ 0 ∷ 20 ∷ 0 ∷ 0 ∷ 0 ∷ 21 ∷ 0 ∷ 0 ∷ 0 ∷ [])
+    ++ (0 ∷ 0 ∷ 0 ∷ 0 ∷ 2 ∷ 0 ∷ 20 ∷ 0 ∷ 0 ∷ 0 ∷ e ∷ 0 ∷ 0 ∷ 0 ∷ [])
     ++ replicate (standard_page_size * 12 - 14) 0
+
+-- with entries 20, 21
+abbrev pub store : List ℕ
+store = store_with 21
+
+-- what is lent to the reader: tables of two and three places, and a map; and what it has then
+abbrev pub with_map : List ℕ → List ℕ → List ℕ → ListLent
+with_map pages entries map = record { tables = tables pages entries; map = map }
+
+abbrev pub map_used : List ℕ
+map_used = 0 ∷ 0 ∷ 0 ∷ old ∷ old ∷ old ∷ []
 
 -- ---- handing out and finishing
 
@@ -59,9 +70,21 @@ next l bump n = count_up standard_page_size (save l bump n)
 abbrev pub handed : ℕ → ℕ → Effect ℕ Counters
 handed number n = effect (answer number) (record { handed = n; recorded = 8192 })
 
--- room for a page, with a place more for its bytes and for its number
+-- room for a page, with a place more for its bytes and for its number, and a bit map of six bytes
 abbrev pub room : FinishRoom
-room = record { buffer = replicate (standard_page_size + 1) old; numbers = old ∷ old ∷ [] }
+room = record { buffer = replicate (standard_page_size + 1) old; numbers = old ∷ old ∷ []; map = replicate 6 old }
+
+-- the same with another number list and map
+abbrev pub room_with : List ℕ → List ℕ → FinishRoom
+room_with numbers map = record { buffer = room.buffer; numbers = numbers; map = map }
+
+-- the map where its first four bytes were in use, as for all numbers below a bump of 30 or 32
+abbrev pub unmarked : List ℕ
+unmarked = 0 ∷ 0 ∷ 0 ∷ 0 ∷ old ∷ old ∷ []
+
+-- the room where only the map was used
+abbrev pub room_unmarked : FinishRoom
+room_unmarked = record { buffer = room.buffer; numbers = room.numbers; map = unmarked }
 
 -- the save is finished with these numbers freed
 abbrev pub finish : FreeList → ℕ → ℕ → List ℕ → Effect FinishAnswer FinishLent
@@ -75,13 +98,17 @@ page bytes = bytes ++ replicate (standard_page_size - length bytes) 0
 abbrev pub writes : ℕ → ℕ → List ℕ → ℕ → ListTables → Effect FinishAnswer FinishLent
 writes number entries bytes bump t =
     effect (answer (record { head = number; bump = bump; recorded = 8192; P = 1; L = entries; count = 1 }))
-    (record { tables = t; room = record { buffer = bytes ++ (old ∷ []); numbers = number ∷ old ∷ [] } })
+    (record { tables = t; room = record { buffer = bytes ++ (old ∷ []); numbers = number ∷ old ∷ []; map = unmarked } })
 
 -- it writes none, and there is no list: the bump
 abbrev pub writes_none : ℕ → Effect FinishAnswer FinishLent
 writes_none bump =
     effect (answer (record { head = 0; bump = bump; recorded = 8192; P = 0; L = 0; count = 0 }))
-    (record { tables = tables (old ∷ []) (old ∷ old ∷ []); room = room })
+    (record { tables = tables (old ∷ []) (old ∷ old ∷ []); room = room_unmarked })
+
+-- it is refused with this number, and of what was lent only the map has changed
+abbrev pub map_changed : ℕ → FreeList → Effect FinishAnswer FinishLent
+map_changed number l = effect (refused number []) (record { tables = tables (l.pages ++ (old ∷ [])) (l.entries ++ (old ∷ old ∷ [])); room = room_unmarked })
 
 -- ---- values
 
@@ -113,8 +140,16 @@ pub record Samples : Type 0 where
   pub grow_2 : grow 2 ≡ answer 16384
   pub grow_8193 : grow 8193 ≡ answer 16384
   pub grow_8194 : grow 8194 ≡ answer 24576
-  pub list_read : read_list_into standard_page_size store false 10 (tables (old ∷ old ∷ []) (old ∷ old ∷ old ∷ []))
-      ≡ effect (answer (record { P = 1; L = 2 })) (tables (10 ∷ old ∷ []) (20 ∷ 21 ∷ old ∷ []))
+  pub list_read : read_list_into standard_page_size store false 10 (with_map (old ∷ old ∷ []) (old ∷ old ∷ old ∷ []) (replicate 6 old))
+      ≡ effect (answer (record { P = 1; L = 2 })) (with_map (10 ∷ old ∷ []) (20 ∷ 21 ∷ old ∷ []) map_used)
+  pub map_short : read_list_into standard_page_size store false 10 (with_map (old ∷ old ∷ []) (old ∷ old ∷ old ∷ []) (replicate 2 old))
+      ≡ effect (refused 21 []) (with_map (old ∷ old ∷ []) (old ∷ old ∷ old ∷ []) (replicate 2 old))
+  pub entry_twice : read_list_into standard_page_size (store_with 20) false 10 (with_map (old ∷ old ∷ []) (old ∷ old ∷ old ∷ []) (replicate 6 old))
+      ≡ effect (refused 22 []) (with_map (old ∷ old ∷ []) (old ∷ old ∷ old ∷ []) map_used)
+  pub list_page_as_entry : read_list_into standard_page_size (store_with 10) false 10 (with_map (old ∷ old ∷ []) (old ∷ old ∷ old ∷ []) (replicate 6 old))
+      ≡ effect (refused 22 []) (with_map (old ∷ old ∷ []) (old ∷ old ∷ old ∷ []) map_used)
+  pub table_short : read_list_into standard_page_size store false 10 (with_map (old ∷ []) (old ∷ []) (replicate 6 old))
+      ≡ effect (refused 6 []) (with_map (old ∷ []) (old ∷ []) map_used)
   pub handed_out_first : next (list (10 ∷ []) (20 ∷ 21 ∷ [])) 30 0 ≡ handed 21 1
   pub handed_out_second : next (list (10 ∷ []) (20 ∷ 21 ∷ [])) 30 1 ≡ handed 20 2
   pub finish_popped_and_freed :
@@ -125,6 +160,17 @@ pub record Samples : Type 0 where
       ≡ writes 21 3 (page (0 ∷ 0 ∷ 0 ∷ 0 ∷ 3 ∷ 0 ∷ 20 ∷ 0 ∷ 0 ∷ 0 ∷ 15 ∷ 0 ∷ 0 ∷ 0 ∷ 10 ∷ 0 ∷ 0 ∷ 0 ∷ [])) 30 (tables (21 ∷ old ∷ []) (20 ∷ 15 ∷ 10 ∷ old ∷ []))
   pub finish_empty_list : finish (list [] []) 30 2 [] ≡ writes_none 32
   pub finish_empty_list_freed : finish (list [] []) 30 0 (5 ∷ []) ≡ writes 30 1 (page (0 ∷ 0 ∷ 0 ∷ 0 ∷ 1 ∷ 0 ∷ 5 ∷ 0 ∷ 0 ∷ 0 ∷ [])) 31 (tables (30 ∷ []) (5 ∷ old ∷ []))
+  pub finish_freed_twice : finish (list (10 ∷ []) (20 ∷ 21 ∷ [])) 30 0 (15 ∷ 15 ∷ []) ≡ map_changed 22 (list (10 ∷ []) (20 ∷ 21 ∷ []))
+  pub finish_list_page_freed : finish (list (10 ∷ []) (20 ∷ 21 ∷ [])) 30 2 (10 ∷ []) ≡ map_changed 22 (list (10 ∷ []) (20 ∷ 21 ∷ []))
+  pub finish_entry_freed : finish (list (10 ∷ []) (20 ∷ 21 ∷ [])) 30 1 (20 ∷ []) ≡ map_changed 22 (list (10 ∷ []) (20 ∷ 21 ∷ []))
+  pub finish_entry_at_the_bump : finish (list (10 ∷ []) (30 ∷ 21 ∷ [])) 30 0 [] ≡ map_changed 22 (list (10 ∷ []) (30 ∷ 21 ∷ []))
+  pub finish_tables_short : finish (list (10 ∷ []) (20 ∷ 21 ∷ [])) 30 0 (15 ∷ 16 ∷ 17 ∷ []) ≡ map_changed 6 (list (10 ∷ []) (20 ∷ 21 ∷ []))
+  pub finish_map_short :
+      finish_into standard_page_size (save (list (10 ∷ []) (20 ∷ 21 ∷ [])) 30 0) (15 ∷ []) (room_with (old ∷ old ∷ []) (replicate 3 old))
+      ≡ effect (refused 21 []) (record { tables = tables (10 ∷ old ∷ []) (20 ∷ 21 ∷ old ∷ old ∷ []); room = room_with (old ∷ old ∷ []) (replicate 3 old) })
+  pub finish_numbers_short :
+      finish_into standard_page_size (save (list (10 ∷ []) (20 ∷ 21 ∷ [])) 30 0) (15 ∷ []) (room_with [] (replicate 6 old))
+      ≡ effect (refused 9 []) (record { tables = tables (10 ∷ old ∷ []) (20 ∷ 21 ∷ old ∷ old ∷ []); room = room_with [] unmarked })
   pub all_popped_first : next (list (10 ∷ []) (20 ∷ [])) 30 0 ≡ handed 20 1
   pub all_popped_second : next (list (10 ∷ []) (20 ∷ [])) 30 1 ≡ handed 30 2
   pub all_popped_third : next (list (10 ∷ []) (20 ∷ [])) 30 2 ≡ handed 31 3

@@ -21,9 +21,10 @@ pub extern "C" fn sized_read_list(
     head: u32,
     pages: &mut [u32],
     entries: &mut [u32],
+    map: &mut [u8],
     out: &mut [u64; 8],
 ) -> u32
-    ensures { ReadsList (page_size_of words) store head pages entries out result }
+    ensures { ReadsList (page_size_of words) store head pages entries map out result }
 {
     calls::lists::read_list(
         PageSize::of_words(words as usize),
@@ -31,6 +32,7 @@ pub extern "C" fn sized_read_list(
         head,
         pages,
         entries,
+        map,
         out,
     )
 }
@@ -96,9 +98,10 @@ pub extern "C" fn sized_finish(
     freed: &[u32],
     buffer: &mut [u8],
     numbers: &mut [u32],
+    map: &mut [u8],
     out: &mut [u64; 8],
 ) -> u32
-    ensures { Finishes (page_size_of words) bump length p l count pages entries freed buffer numbers out result }
+    ensures { Finishes (page_size_of words) bump length p l count pages entries freed buffer numbers map out result }
 {
     calls::saves::finish(
         PageSize::of_words(words as usize),
@@ -112,6 +115,7 @@ pub extern "C" fn sized_finish(
         freed,
         buffer,
         numbers,
+        map,
         out,
     )
 }

@@ -43,6 +43,8 @@ pub fn rows() -> Vec<Row> {
         theirs,
         copy: None,
         fill: None,
+        map: None,
+        rounds: None,
     };
     let totals = SIZES.map(|(name, size)| row(format!("total-{name}"), totalling(size)));
     let encoding = row("encode_cell".into(), encoding());

@@ -1,12 +1,16 @@
 //! Reading lists of full pages.
 //!
-//! The library reads the lent store into tables that are there already. The Rust has two rows:
-//! `file` is its `FreeList::read` with its calls to read each page from the store's file, which is
-//! in memory; `memory` is the loop of its `FreeList::read` over pages that were read before. Both
-//! make the Rust's own vectors, and what is made is dropped after the clock is stopped. `memory`
-//! also gives back the pages, as the Rust's decoder takes them.
+//! The library reads the lent store into tables that are there already, with a bit map of just the
+//! length that it needs. The Rust has two rows: `file` is its `FreeList::read` with its calls to read
+//! each page from the store's file, which is in memory; `memory` is the loop of its `FreeList::read`
+//! over pages that were read before. Both make the Rust's own vectors, and what is made is dropped
+//! after the clock is stopped. `memory` also gives back the pages, as the Rust's decoder takes them.
+//! The map alone is the work of `maps::all_differ` on the pages and entries in two tables.
 
-use crate::timing::{measured, Ours, Row, Work};
+use crate::{
+    maps, numbers,
+    timing::{measured, Ours, Row, Work},
+};
 use common::{
     lists::{self, Portions, CAPACITY},
     Random, Store,
@@ -24,28 +28,35 @@ use std::{hint::black_box, io, rc::Rc};
 /// About how many list pages a sample goes through.
 const SAMPLE: usize = 1000;
 
-pub fn rows() -> io::Result<Vec<Row>> {
+/// The rows that are taken, by their names.
+pub fn rows(takes: &dyn Fn(&str) -> bool) -> io::Result<Vec<Row>> {
     let mut rows = vec![];
-    for pages in [1, 100, 3000] {
+    for pages in [1, 10, 100, 1500, 3000] {
+        let names = ["file", "memory"].map(|name| format!("read_list-{pages}-{name}"));
+        if !names.iter().any(|name| takes(name)) {
+            continue;
+        }
         let list = Rc::new(List::new(pages)?);
-        let theirs: [(&str, Work); 2] =
-            [("file", list.from_file()), ("memory", list.from_memory())];
-        for (name, theirs) in theirs {
+        let theirs: [Work; 2] = [list.from_file(), list.from_memory()];
+        for (name, theirs) in names.into_iter().zip(theirs) {
             rows.push(Row {
-                name: format!("read_list-{pages}-{name}"),
+                name,
                 pages,
                 calls: (SAMPLE / pages).max(1),
                 ours: list.ours(),
                 theirs,
                 copy: None,
                 fill: None,
+                map: Some(list.map_alone()),
+                rounds: None,
             });
         }
     }
     Ok(rows)
 }
 
-/// A list in a store that has as many other pages.
+/// A list in the least store that holds it: all pages but page 0 are its own or its entries. Only its own
+/// are ever touched.
 struct List {
     store: Store,
     page_count: u32,
@@ -53,18 +64,22 @@ struct List {
 }
 
 impl List {
-    /// The list's pages lie about in the store, and entries are any of its pages.
+    /// The list's pages are half of those at the front of the store, and lie about there; the entries
+    /// are all other pages, in random order.
     fn new(pages: usize) -> io::Result<List> {
-        let page_count = 2 * pages as u32 + 1;
+        let page_count = (pages * (1 + CAPACITY) + 1) as u32;
         let mut random = Random::new(pages as u64);
-        let mut any_page = |_| PageNumber(1 + random.below(page_count as u64 - 1) as u32);
-        // 7 has no common divisor with the page counts of the rows, so that no page comes twice.
-        let list = (1..=pages as u32)
-            .map(|p| {
-                (
-                    PageNumber(7 * p % page_count),
-                    (0..CAPACITY).map(&mut any_page).collect(),
-                )
+        let mut own: Vec<u32> = (1..=2 * pages as u32).collect();
+        numbers::shuffle(&mut own, &mut random);
+        let mut entries = own.split_off(pages);
+        entries.extend(2 * pages as u32 + 1..page_count);
+        numbers::shuffle(&mut entries, &mut random);
+        let list = own
+            .iter()
+            .zip(entries.chunks(CAPACITY))
+            .map(|(page, entries)| {
+                let entries = entries.iter().copied().map(PageNumber).collect();
+                (PageNumber(*page), entries)
             })
             .collect();
         let mut store = Store::new(page_count as usize * PAGE_SIZE)?;
@@ -81,8 +96,16 @@ impl List {
     /// Sees to it that all read the same list.
     fn check(&self) {
         let (mut pages, mut entries) = self.tables();
-        let reply = self.read_into(Form::Fixed, &mut pages, &mut entries);
-        assert_eq!(reply.number, 0);
+        maps::lend(self.page_count, |map| {
+            let reply = self.read_into(Form::Fixed, &mut pages, &mut entries, map);
+            assert_eq!(reply.number, 0);
+            assert!(map.iter().all(|byte| *byte == 0));
+            assert!(maps::all_differ(
+                map,
+                self.page_count,
+                [&pages, &entries, &[]]
+            ));
+        });
         assert!(self.list.iter().map(|(page, _)| page.0).eq(pages));
         let all_entries = self.list.iter().flat_map(|(_, entries)| entries);
         assert!(all_entries.map(|entry| entry.0).eq(entries));
@@ -94,14 +117,34 @@ impl List {
         let list = self.clone();
         let (mut pages, mut entries) = self.tables();
         Ours::Any(Box::new(move |form, calls| {
-            measured(|| {
-                for _ in 0..calls {
-                    black_box(list.read_into(form, &mut pages, &mut entries));
-                    black_box((&mut pages, &mut entries));
-                }
+            maps::lend(list.page_count, |map| {
+                measured(|| {
+                    for _ in 0..calls {
+                        black_box(list.read_into(form, &mut pages, &mut entries, map));
+                        black_box((&mut pages, &mut entries));
+                    }
+                })
+                .0
             })
-            .0
         }))
+    }
+
+    fn map_alone(self: &Rc<List>) -> Work {
+        let page_count = self.page_count;
+        let pages: Vec<u32> = self.list.iter().map(|(page, _)| page.0).collect();
+        let entries = self.list.iter().flat_map(|(_, entries)| entries);
+        let entries: Vec<u32> = entries.map(|entry| entry.0).collect();
+        Box::new(move |calls| {
+            maps::lend(page_count, |map| {
+                measured(|| {
+                    for _ in 0..calls {
+                        let numbers = [&pages[..], &entries, &[]];
+                        black_box(maps::all_differ(map, page_count, numbers));
+                    }
+                })
+                .0
+            })
+        })
     }
 
     fn from_file(self: &Rc<List>) -> Work {
@@ -130,8 +173,14 @@ impl List {
         PageNumber(lists::head(&self.list))
     }
 
-    fn read_into(&self, form: Form, pages: &mut [u32], entries: &mut [u32]) -> Reply {
-        form.read_list(self.store.bytes(), self.head().0, pages, entries)
+    fn read_into(
+        &self,
+        form: Form,
+        pages: &mut [u32],
+        entries: &mut [u32],
+        map: &mut [u8],
+    ) -> Reply {
+        form.read_list(self.store.bytes(), self.head().0, pages, entries, map)
     }
 
     fn read_file(&self) -> FreeList {

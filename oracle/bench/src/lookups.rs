@@ -33,6 +33,8 @@ pub fn rows() -> io::Result<Vec<Row>> {
             theirs: querying(&store, page)?,
             copy: None,
             fill: None,
+            map: None,
+            rounds: None,
         });
     }
     Ok(rows)

@@ -3,6 +3,8 @@
 mod cells;
 mod lists;
 mod lookups;
+mod maps;
+mod numbers;
 mod saves;
 mod timing;
 mod values;
@@ -11,7 +13,7 @@ use std::{env, io, process::ExitCode};
 use timing::{Row, Side};
 
 const USAGE: &str = "\
-usage: bench [--rounds N] [PREFIX] | --once ROW ours|theirs|copy|fill|before
+usage: bench [--rounds N] [PREFIX] | --once ROW ours|theirs|copy|fill|map|before
   --rounds N  samples of each side, 201 if not given
   PREFIX      only the rows whose names begin so
   --once      one call of one side, for a program that counts instructions";
@@ -48,8 +50,8 @@ fn main() -> ExitCode {
 fn run(mode: Mode) -> io::Result<()> {
     let takes = |name: &str| mode.takes(name);
     let operations: [&dyn Fn() -> io::Result<Vec<Row>>; 5] = [
-        &lists::rows,
-        &saves::rows,
+        &|| lists::rows(&takes),
+        &|| saves::rows(&takes),
         &|| Ok(cells::rows()),
         &|| values::rows(&takes),
         &lookups::rows,
@@ -84,6 +86,7 @@ fn mode() -> Option<Mode> {
                 "theirs" => Side::Theirs,
                 "copy" => Side::Copy,
                 "fill" => Side::Fill,
+                "map" => Side::Map,
                 "before" => Side::Before,
                 _ => return None,
             },

@@ -16,6 +16,10 @@ pub struct Row {
     pub copy: Option<Work>,
     /// The bytes copied to their places and the rest made zero, where the work is to fill pages.
     pub fill: Option<Work>,
+    /// The least work on the bit map, where one is lent.
+    pub map: Option<Work>,
+    /// The most samples of each side, where one takes long.
+    pub rounds: Option<usize>,
 }
 
 /// Prepares so many calls, makes them within [`measured`] and gives the time that this took.
@@ -35,36 +39,46 @@ pub enum Side {
     Theirs,
     Copy,
     Fill,
+    Map,
     Before,
 }
 
 pub const HEADING: &str = "\
 | row | ours | the Rust | ours / the Rust | ours, per page | the Rust, per page | memcpy | ours / memcpy \
-| memcpy and memset | ours / both | before | ours / before |
-|---|---:|---:|---:|---:|---:|---:|---:|---:|---:|---:|---:|";
+| memcpy and memset | ours / both | map alone | ours less it | before | ours / before |
+|---|---:|---:|---:|---:|---:|---:|---:|---:|---:|---:|---:|---:|---:|";
 
 impl Row {
     /// Takes turns, a sample of each side in every round. Gives a line with the medians.
     pub fn compare(&mut self, rounds: usize) -> String {
-        let mut samples: [Vec<Duration>; 5] = Default::default();
-        for round in 0..rounds {
+        let mut samples: [Vec<Duration>; 6] = Default::default();
+        for round in 0..rounds.min(self.rounds.unwrap_or(rounds)) {
             // Ours and that of the other commit change places, so that both follow the same work equally often.
             let (first, last) = match round % 2 {
                 0 => (Side::Ours, Side::Before),
                 _ => (Side::Before, Side::Ours),
             };
-            for side in [first, Side::Theirs, Side::Copy, Side::Fill, last] {
+            for side in [first, Side::Theirs, Side::Copy, Side::Fill, Side::Map, last] {
                 samples[side as usize].extend(self.sample(side, self.calls));
             }
         }
-        let [ours, theirs, copy, fill, before] = samples.map(|samples| self.microseconds(samples));
+        let [ours, theirs, copy, fill, map, before] =
+            samples.map(|samples| self.microseconds(samples));
         // Every row has these two.
         let (ours, theirs) = (ours.unwrap(), theirs.unwrap());
         let pages = self.pages as f64;
-        let beside = [copy, fill, before].map(|time| match time {
-            Some(time) => format!("{time:.2} µs | {:.2} |", ours / time),
+        let beside = |time: Option<f64>, compared: fn(f64, f64) -> String| match time {
+            Some(time) => format!("{time:.2} µs | {} |", compared(ours, time)),
             None => "| |".to_string(),
-        });
+        };
+        let ratio = |ours, time| format!("{:.2}", ours / time);
+        let rest = |ours, time| format!("{:.2} µs", ours - time);
+        let beside = [
+            beside(copy, ratio),
+            beside(fill, ratio),
+            beside(map, rest),
+            beside(before, ratio),
+        ];
         format!(
             "| {} | {ours:.2} µs | {theirs:.2} µs | {:.2} | {:.0} ns | {:.0} ns | {}",
             self.name,
@@ -85,6 +99,7 @@ impl Row {
             Side::Theirs => Some((self.theirs)(calls)),
             Side::Copy => self.copy.as_mut().map(|copy| copy(calls)),
             Side::Fill => self.fill.as_mut().map(|fill| fill(calls)),
+            Side::Map => self.map.as_mut().map(|map| map(calls)),
             Side::Before => match &mut self.ours {
                 Ours::This(_) => None,
                 Ours::Any(work) => BEFORE.map(|form| work(form, calls)),

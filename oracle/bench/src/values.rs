@@ -118,6 +118,8 @@ fn rows_of(
             theirs,
             copy,
             fill,
+            map: None,
+            rounds: None,
         })
         .collect())
 }

@@ -32,6 +32,7 @@ const DIFFERENCES: [(&str, &[(u32, &str)]); 14] = [
             (4, "would not end"),
             (5, "gives an I/O error"),
             (5, "would not end"),
+            (22, "reads it"),
         ],
     ),
     (
@@ -49,6 +50,9 @@ const DIFFERENCES: [(&str, &[(u32, &str)]); 14] = [
             (7, "takes the bump for a list page"),
             (7, "takes the bump for a list page and cuts the store"),
             (8, "keeps it in the list and hands it out"),
+            (22, "hands a number out twice"),
+            (22, "hands out a list page"),
+            (22, "writes over the head"),
         ],
     ),
     (

@@ -10,6 +10,7 @@ mod history;
 mod save;
 
 use crate::{
+    map,
     record::Recorder,
     report::Report,
     saves::{self, model as save_model},
@@ -45,7 +46,7 @@ pub const VALUES: [&str; 8] = [
 ];
 
 /// The replies that have to be reached, and no others, by report: those of a host that lends too
-/// little or frees what is none.
+/// little, or frees what is none or is not to be freed.
 const SAVE_REPLIES: [&[u32]; 3] = [
     &[0],
     &[
@@ -54,8 +55,10 @@ const SAVE_REPLIES: [&[u32]; 3] = [
         save_model::TABLES,
         save_model::FREED,
         save_model::BUFFER,
+        map::TOO_SHORT,
+        map::REPEAT,
     ],
-    &[0],
+    &[0, map::TOO_SHORT],
 ];
 const WRITTEN: &[u32] = &[0, value_model::BUFFER, value_model::INDEX];
 const VALUE_REPLIES: [&[u32]; 8] = [
@@ -73,6 +76,10 @@ const VALUE_REPLIES: [&[u32]; 8] = [
 #[derive(Clone, Copy)]
 enum Event {
     Saved,
+    AtLast,
+    FreedTwice,
+    FreedListPage,
+    FreedEntry,
     GivenUp,
     GivenUpFinished,
     Reopened,
@@ -86,8 +93,12 @@ enum Event {
     ReadBack,
 }
 
-const EVENTS: [&str; 12] = [
+const EVENTS: [&str; 16] = [
     "saves",
+    "finished after a map too short",
+    "and after a number freed twice",
+    "and after a list page freed",
+    "and after a free number freed",
     "given up before the finish",
     "given up after it",
     "stores opened again",

@@ -1,24 +1,26 @@
 //! `read_list`: a list read from its head page down into two tables.
 //!
 //! The Rust's `FreeList::read` reads the same store as a file. It accepts more than the library
-//! and stops in other ways, so what to expect of a harmed list comes from a model of document 01.
-//! Where the model accepts a list, the Rust has to read the same one; what it does with the others
-//! is counted.
+//! and stops in other ways, so what to expect of a harmed list comes from a model of the documents.
+//! Where the model finds a list, the Rust has to read the same one; what it does with the others is
+//! counted, and with those that are refused for a number that occurs twice.
 
 mod case;
 mod fixed;
-mod model;
+pub mod model;
 mod random;
 mod rust;
 mod small;
 
 use crate::{
+    map,
     report::{difference, Report},
     saves::Library,
     Plan,
 };
 use case::Case;
-use common::lists::Portions;
+use common::Random;
+use model::{size, Read};
 use mopsienna_sys::{Form, Reply};
 use nomt_4096::{
     beatree::allocator::probe::free_list::{fragmented, portions},
@@ -30,19 +32,28 @@ use std::io;
 /// There is one random list for so many random cases of other operations, as it takes longer.
 pub const RANDOM_SHARE: u64 = 20;
 
+/// A map of more bytes that is long enough is lent to some of the calls alone.
+const MOST_MAP: usize = 1 << 20;
+
 /// Compares the library's `read_list`.
 pub fn compare(plan: &Plan, library: &dyn Library) -> io::Result<Report> {
     let mut comparison = Comparison {
         library,
         report: Report::new("read_list"),
+        random: Random::new(plan.seed),
+        large: map::Large::default(),
+        large_rooms: match (plan.short, plan.count) {
+            (true, 0..=10_000) => 0,
+            (true, _) => 1,
+            _ => 5,
+        },
     };
+    fixed::each(&mut |case| comparison.check(case))?;
+    comparison.large_rooms = 0;
     let mut check = |case: &Case| comparison.check(case);
-    fixed::each(&mut check)?;
     fixed::each_healthy(plan.short, &mut check)?;
     random::each(plan.seed, plan.count / RANDOM_SHARE, &mut check)?;
-    if plan.recorder.is_on() {
-        small::record_all(plan)?;
-    }
+    small::each(plan, &mut comparison)?;
     comparison.report.reached(&[
         0,
         model::PAST_STORE,
@@ -50,6 +61,8 @@ pub fn compare(plan: &Plan, library: &dyn Library) -> io::Result<Report> {
         model::ENTRY,
         model::NOT_ENDED,
         model::TABLES,
+        map::TOO_SHORT,
+        map::REPEAT,
     ]);
     Ok(comparison.report)
 }
@@ -57,21 +70,39 @@ pub fn compare(plan: &Plan, library: &dyn Library) -> io::Result<Report> {
 struct Comparison<'a> {
     library: &'a dyn Library,
     report: Report,
+    /// What maps hold before a call.
+    random: Random,
+    large: map::Large,
+    /// For how many of its rooms a list gets a map that is longer than [`MOST_MAP`] and long enough.
+    large_rooms: usize,
+}
+
+/// What is lent beside the store: how many places of each.
+#[derive(Clone, Copy, Debug)]
+struct Room {
+    pages: usize,
+    entries: usize,
+    map: usize,
 }
 
 impl Comparison<'_> {
     fn check(&mut self, case: &Case) {
         let model = model::read(PAGE_SIZE, case.store.bytes(), case.head);
         self.check_rust(case, &model);
-        for (pages, entries) in table_lengths(case, &model) {
-            self.check_library(case, &model, pages, entries);
+        for (at, room) in rooms(case, &model).into_iter().enumerate() {
+            let too_short = map::is_too_short(room.map, model.bits);
+            if room.map <= MOST_MAP || too_short || at < self.large_rooms {
+                let store = case.store.bytes();
+                let text = || case.to_string();
+                self.check_library(Form::Fixed, store, case.head, &model, room, text);
+            }
         }
     }
 
     /// The Rust beside the model.
-    fn check_rust(&mut self, case: &Case, model: &Result<Portions, Reply>) {
+    fn check_rust(&mut self, case: &Case, model: &Read) {
         let rust = Rust::read(case);
-        let agrees = match (model, &rust) {
+        let agrees = match (&model.list, &rust) {
             (Ok(list), Rust::Reads(read)) => {
                 let (pages, entries) = size(list);
                 list == portions(read)
@@ -87,33 +118,48 @@ impl Comparison<'_> {
             self.report
                 .disagree_at_call("the Rust is not as expected", || case.to_string());
         }
-        if model.is_err() || !matches!(rust, Rust::Reads(_)) {
-            let number = model.as_ref().err().map_or(0, |reply| reply.number);
+        let number = model.number();
+        if number != 0 || !matches!(rust, Rust::Reads(_)) {
             self.report.class(number, rust.name(), || case.to_string());
         }
     }
 
-    /// The library beside the model, with tables of these lengths.
+    /// The library beside the model, with so much room.
     fn check_library(
         &mut self,
-        case: &Case,
-        model: &Result<Portions, Reply>,
-        pages: usize,
-        entries: usize,
+        form: Form,
+        store: &[u8],
+        head: u32,
+        model: &Read,
+        room: Room,
+        text: impl FnOnce() -> String,
     ) {
-        let expected = expected(model, Tables::untouched(pages, entries));
-        let mut tables = Tables::untouched(pages, entries);
-        let reply = self.library.read_list(
-            Form::Fixed,
-            case.store.bytes(),
-            case.head,
-            &mut tables.pages,
-            &mut tables.entries,
-        );
-        let same = tables == expected.1;
+        let expected = expected(model, room);
+        let mut tables = Tables::untouched(room);
+        let library = self.library;
+        let mut read = |map: &mut [u8]| {
+            let (pages, entries) = (&mut tables.pages, &mut tables.entries);
+            library.read_list(form, store, head, pages, entries, map)
+        };
+        let random = &mut self.random;
+        let (reply, map) = if room.map <= MOST_MAP {
+            let mut map = map::dirty(room.map, random);
+            let mut expected_map = map.clone();
+            expected_map[..map::cleared_by(&expected.0, model.bits)].fill(0);
+            let reply = read(&mut map);
+            (reply, difference("map", &expected_map, &map))
+        } else {
+            let (reply, same) = self
+                .large
+                .lend(room.map, model.bits, &expected.0, random, |map| read(map));
+            let other = ", another map than expected".to_string();
+            (reply, if same { String::new() } else { other })
+        };
+        let same = tables == expected.1 && map.is_empty();
         self.report.compare(&expected.0, &reply, same, || {
             format!(
-                "{case}, tables of {pages} and {entries}{}{}",
+                "{}, {room:?}{}{}{map}",
+                text(),
                 difference("pages", &expected.1.pages, &tables.pages),
                 difference("entries", &expected.1.entries, &tables.entries),
             )
@@ -130,25 +176,23 @@ struct Tables {
 
 impl Tables {
     /// Each place holds a number of its own, so that a place written is noticed.
-    fn untouched(pages: usize, entries: usize) -> Tables {
+    fn untouched(room: Room) -> Tables {
         let numbers = |start: u32, length: usize| (start..).take(length).collect();
         Tables {
-            pages: numbers(0xA5A5_0000, pages),
-            entries: numbers(0x5A5A_0000, entries),
+            pages: numbers(0xA5A5_0000, room.pages),
+            entries: numbers(0x5A5A_0000, room.entries),
         }
     }
 }
 
 /// What a call should give, and leave in the tables.
-fn expected(model: &Result<Portions, Reply>, mut tables: Tables) -> (Reply, Tables) {
-    let list = match model {
-        Ok(list) => list,
-        Err(refusal) => return (refusal.clone(), tables),
+fn expected(model: &Read, room: Room) -> (Reply, Tables) {
+    let mut tables = Tables::untouched(room);
+    let reply = model.reply(room.pages, room.entries, room.map);
+    let list = match &model.list {
+        Ok(list) if reply.number == 0 => list,
+        _ => return (reply, tables),
     };
-    let (pages, entries) = size(list);
-    if tables.pages.len() < pages || tables.entries.len() < entries {
-        return (Reply::refusal(model::TABLES, &[]), tables);
-    }
     let all_entries = list.iter().flat_map(|(_, entries)| entries);
     for (place, (page, _)) in tables.pages.iter_mut().zip(list) {
         *place = page.0;
@@ -156,25 +200,50 @@ fn expected(model: &Result<Portions, Reply>, mut tables: Tables) -> (Reply, Tabl
     for (place, entry) in tables.entries.iter_mut().zip(all_entries) {
         *place = entry.0;
     }
-    (Reply::answer(&[pages as u64, entries as u64]), tables)
+    (reply, tables)
 }
 
-/// Lengths of tables to call with: as long as the list and longer, and each one too short.
-fn table_lengths(case: &Case, model: &Result<Portions, Reply>) -> Vec<(usize, usize)> {
-    let (pages, entries) = size(model.as_ref().unwrap_or(&case.list));
-    let mut lengths = vec![(pages, entries), (pages + 2, entries + 5)];
+/// Room to call with: just what is needed and more, each table too short, both of them, and the map, which
+/// comes first.
+fn rooms(case: &Case, model: &Read) -> Vec<Room> {
+    let (pages, entries) = size(model.list.as_ref().unwrap_or(&case.list));
+    let map = map::in_use(model.bits);
+    let exact = Room {
+        pages,
+        entries,
+        map,
+    };
+    let ample = Room {
+        pages: pages + 2,
+        entries: entries + 5,
+        map: map + 3,
+    };
+    let none = Room {
+        pages: 0,
+        entries: 0,
+        map: 0,
+    };
+    let mut rooms = vec![exact, ample];
     if pages > 0 {
-        lengths.push((pages - 1, entries));
+        rooms.push(Room {
+            pages: pages - 1,
+            ..exact
+        });
     }
     if entries > 0 {
-        lengths.push((pages, entries - 1));
-        lengths.push((0, 0));
+        rooms.push(Room {
+            entries: entries - 1,
+            map: map + 1,
+            ..exact
+        });
+        rooms.push(Room { map, ..none });
     }
-    lengths
-}
-
-/// How many pages and entries the list has.
-fn size(list: &Portions) -> (usize, usize) {
-    let entries = list.iter().map(|(_, entries)| entries.len()).sum();
-    (list.len(), entries)
+    if map > 0 {
+        rooms.push(Room {
+            map: map - 1,
+            ..ample
+        });
+        rooms.push(none);
+    }
+    rooms
 }

@@ -7,6 +7,8 @@ mod differences;
 mod grow;
 mod histories;
 mod lists;
+mod map;
+mod numbers;
 mod panics;
 mod record;
 mod report;
@@ -20,8 +22,8 @@ use record::Recorder;
 use report::text_of;
 use std::{collections::BTreeMap, env, io, ops::RangeInclusive, process::ExitCode};
 
-/// The refusals of document 01's table, and the one of document 02's request Eight.
-const REFUSALS: [RangeInclusive<u32>; 2] = [1..=18, 25..=25];
+/// The refusals of document 01's table, and those of document 02.
+const REFUSALS: [RangeInclusive<u32>; 3] = [1..=18, 21..=22, 25..=25];
 
 const USAGE: &str = "\
 usage: compare [--short] [--seed N] [--count N] [--self-test] [--record FILE]

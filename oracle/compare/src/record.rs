@@ -70,6 +70,11 @@ impl Line {
         kept_elements.chain(fillers).fold(self, Line::number)
     }
 
+    /// The bytes of a map, of which so many are cleared.
+    pub fn map(self, length: usize, cleared: usize) -> Line {
+        self.places(&vec![0u8; length], cleared)
+    }
+
     /// The page size, and an open save.
     pub fn save(self, page_size: usize, save: &Save) -> Line {
         self.number(page_size as u64)

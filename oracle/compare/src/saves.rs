@@ -2,20 +2,23 @@
 //! several page sizes.
 //!
 //! The Rust's `SyncAllocator` hands out from the same state, and its `SyncFinisher` finishes. Where
-//! a call is refused comes from a model of document 01; the Rust has no refusals. Lists that saves
+//! a call is refused comes from a model of the documents; the Rust has no refusals. Lists that saves
 //! made are read back by both sides.
 
 mod calls;
 mod differences;
+mod finishes;
 mod fixed;
 mod history;
 mod kinds;
+mod large;
 pub mod lent;
 mod library;
 pub mod model;
+mod repeats;
 mod states;
 
-use crate::{record::Recorder, report::Report, Plan};
+use crate::{map, record::Recorder, report::Report, Plan};
 use common::Random;
 use kinds::KINDS;
 use model::After;
@@ -44,6 +47,11 @@ pub fn compare(plan: &Plan, library: &dyn Library) -> io::Result<[Report; 3]> {
     fixed::each::<nomt_4096::Plain>(&mut comparison, Form::Fixed)?;
     fixed::each::<nomt_4096::Plain>(&mut comparison, Form::Sized(4096))?;
     differences::each::<nomt_4096::Plain>(&mut comparison, Form::Fixed)?;
+    comparison.group = "libmopsienna, numbers twice".into();
+    repeats::each::<nomt_4096::Plain>(&mut comparison, Form::Fixed, plan.short)?;
+    comparison.group = "large maps".into();
+    large::each::<nomt_4096::Plain>(&mut comparison, Form::Fixed, plan, &[0, 2])?;
+    large::each::<nomt_16::Plain>(&mut comparison, Form::Sized(16), plan, &[4])?;
 
     let most_pages = match (plan.short, plan.count) {
         (true, 0..=10_000) => 1,
@@ -61,6 +69,7 @@ pub fn compare(plan: &Plan, library: &dyn Library) -> io::Result<[Report; 3]> {
     comparison.random::<nomt_4096::Plain>(Form::Sized(4096), seed, saves / 100)?;
     comparison.random::<nomt_4096::Plain>(Form::Fixed, seed, saves / 50)?;
     comparison.group = "libmopsienna, long lists".into();
+    comparison.most_map = LONG_MAP;
     for long in 0..long_histories(plan) {
         let mut random = Random::new(seed + long);
         let few = long % 2 == 0;
@@ -78,10 +87,19 @@ fn long_histories(plan: &Plan) -> u64 {
     }
 }
 
+/// Maps up to so many bytes are lent to every finish; longer ones only to those of `large.rs`, and to
+/// the others one that is too short. Those of long lists are longer.
+const MOST_MAP: usize = 1 << 17;
+const LONG_MAP: usize = 1 << 21;
+
 pub struct Comparison<'a> {
     library: &'a dyn Library,
     recorder: &'a Recorder,
     pub reports: [Report; 3],
+    /// What maps hold before a call.
+    random: Random,
+    large: map::Large,
+    most_map: usize,
     /// What the saves at hand are called.
     pub group: String,
     /// By group: how many saves, and how many were of each kind that has a way of its own through
@@ -99,8 +117,10 @@ const REPLIES: [&[u32]; 3] = [
         model::LIMIT,
         model::FREED,
         model::BUFFER,
+        map::TOO_SHORT,
+        map::REPEAT,
     ],
-    &[0],
+    &[0, map::TOO_SHORT],
 ];
 
 impl<'a> Comparison<'a> {
@@ -113,6 +133,9 @@ impl<'a> Comparison<'a> {
             library,
             recorder,
             reports: operations.map(Report::new),
+            random: Random::new(0),
+            large: map::Large::default(),
+            most_map: MOST_MAP,
             group: String::new(),
             kinds: BTreeMap::new(),
         }
@@ -130,6 +153,8 @@ impl<'a> Comparison<'a> {
         self.group = format!("{form}, every save up to {most_pages} pages");
         let mut random = Random::new(seed);
         history::every::<R>(self, form, most_pages, &mut random)?;
+        self.group = format!("{form}, numbers twice");
+        repeats::each::<R>(self, form, most_pages == 1)?;
         self.random::<R>(form, seed, saves)
     }
 

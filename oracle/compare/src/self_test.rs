@@ -1,7 +1,9 @@
 //! Shows that the comparisons can fail: each is run with one reply of the library changed, or one
-//! place of what it is lent, and has to report a disagreement there.
+//! place of what it is lent, and has to report a disagreement there; and those of lists and of finishes
+//! with libraries that are wrong in one way throughout.
 
 mod changed;
+mod wrong;
 
 use crate::{
     grow, histories, lists,
@@ -14,6 +16,7 @@ use crate::{
 use changed::Changed;
 use mopsienna_sys::{self as library, Form, Reply};
 use std::{io, ops::Range};
+use wrong::{Fault, Wrong};
 
 /// The parts of a reply: its places, and its number after them.
 const PARTS: usize = library::UNTOUCHED.len() + 1;
@@ -43,6 +46,12 @@ pub fn run(plan: &Plan) -> io::Result<bool> {
             let (_, values) = histories::compare(plan, &saves::Linked, changed)?;
             Ok(at(operation, values))
         })?;
+    }
+    for fault in wrong::OF_LISTS {
+        tally.fault(fault, &lists::compare(plan, &Wrong(fault))?);
+    }
+    for fault in wrong::OF_FINISHES {
+        tally.fault(fault, &at(FINISH, saves::compare(plan, &Wrong(fault))?));
     }
     let Tally { changes, missed } = tally;
     println!("self-test: {changes} changes, {missed} not caught");
@@ -85,14 +94,15 @@ const TOTALS: [(Form, u64); 12] = [
     (Form::Sized(4096), 61_381),
 ];
 
-/// The parts that are changed of reading a list: of the two tables, the first and the last place.
-const LIST_PARTS: Range<usize> = 0..PARTS + 4;
+/// The parts that are changed of reading a list: of the two tables and of the map, the first and the last
+/// place.
+const LIST_PARTS: Range<usize> = 0..PARTS + 6;
 
 /// The parts that are changed of each function of saves: of what is lent, the first and the last
 /// place of each.
 const SAVE_PARTS: [(usize, Range<usize>); 3] = [
     (HAND_OUT, 0..PARTS),
-    (FINISH, 0..PARTS + 8),
+    (FINISH, 0..PARTS + 10),
     (READ_BACK, LIST_PARTS),
 ];
 
@@ -124,6 +134,15 @@ impl Tally {
             self.missed += 1;
             let operation = report.operation();
             println!("{operation}: part {part} changed at {input}, and not caught");
+        }
+    }
+
+    /// Counts a fault: the report has to disagree.
+    fn fault(&mut self, fault: Fault, report: &Report) {
+        self.changes += 1;
+        if report.agrees() {
+            self.missed += 1;
+            println!("{}: {fault:?}, and not caught", report.operation());
         }
     }
 

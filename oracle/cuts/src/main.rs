@@ -5,6 +5,7 @@
 
 mod disk;
 mod history;
+mod map;
 mod save;
 mod values;
 

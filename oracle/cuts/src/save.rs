@@ -2,9 +2,10 @@
 
 use crate::{
     disk::{Disk, Write},
+    map,
     values::{cell, new_total, old_total},
 };
-use mopsienna_sys::{Form, Lent, Save};
+use mopsienna_sys::{Form, Lent, Reply, Save};
 use random::Random;
 
 /// A value: its cell, the numbers of its pages and its bytes.
@@ -51,11 +52,24 @@ impl State {
         }
     }
 
-    /// Whether the head and the cells read exactly this from the store.
+    /// Whether the head and the cells read exactly this from the store. Now and then the list's reader is
+    /// called first with a map that is a byte short.
     pub fn reads(&self, form: Form, store: &[u8]) -> bool {
+        let maps = &mut Random::new(store.len() as u64);
         let mut pages = vec![FILLER; self.pages.len() + 1];
         let mut entries = vec![FILLER; self.entries.len() + 1];
-        let reply = form.read_list(store, self.head, &mut pages, &mut entries);
+        let needed = map::in_use(bits(form, store));
+        if needed > 0 && maps.below(8) == 0 {
+            let tables = (&mut pages[..], &mut entries[..]);
+            let refused = read_list(form, store, self.head, tables, needed - 1, maps);
+            assert!(
+                (2..=5).contains(&refused.number) || refused.number == 21,
+                "a list is not read with a map that is too short"
+            );
+        }
+        let length = needed + maps.below(3) as usize;
+        let tables = (&mut pages[..], &mut entries[..]);
+        let reply = read_list(form, store, self.head, tables, length, maps);
         let counts = [self.pages.len() as u64, self.entries.len() as u64];
         reply.number == 0
             && reply.out[..2] == counts
@@ -65,6 +79,34 @@ impl State {
             && entries[self.entries.len()] == FILLER
             && self.values.iter().all(|value| value.reads(form, store))
     }
+}
+
+/// How many bits a map has to have to read a list from the store.
+fn bits(form: Form, store: &[u8]) -> u64 {
+    (store.len() / form.page_size()) as u64
+}
+
+/// Reads a list with a map of so many bytes that hold anything.
+fn read_list(
+    form: Form,
+    store: &[u8],
+    head: u32,
+    (pages, entries): (&mut [u32], &mut [u32]),
+    length: usize,
+    maps: &mut Random,
+) -> Reply {
+    let before = map::dirty(length, maps);
+    let mut map = before.clone();
+    let reply = form.read_list(store, head, pages, entries, &mut map);
+    map::check(reply.number, &before, &map, bits(form, store));
+    if reply.number != 0 {
+        let untouched = |table: &[u32]| table.iter().all(|place| *place == FILLER);
+        assert!(
+            untouched(pages) && untouched(entries),
+            "a list that is refused leaves the tables"
+        );
+    }
+    reply
 }
 
 impl Value {
@@ -95,6 +137,8 @@ struct Open<'a> {
     form: Form,
     save: Save,
     lent: Lent,
+    /// For what maps hold, and for mistakes.
+    maps: Random,
     random: &'a mut Random,
     writes: Vec<Write>,
     freed: Vec<u32>,
@@ -137,7 +181,10 @@ impl<'a> Open<'a> {
     fn start(form: Form, state: &State, disk: &Disk, random: &'a mut Random) -> Open<'a> {
         let mut pages = vec![FILLER; state.pages.len() + 4];
         let mut entries = vec![FILLER; state.entries.len() + 4];
-        let reply = form.read_list(&disk.store, state.head, &mut pages, &mut entries);
+        let mut maps = Random::new(state.bump.into());
+        let length = map::in_use(bits(form, &disk.store));
+        let tables = (&mut pages[..], &mut entries[..]);
+        let reply = read_list(form, &disk.store, state.head, tables, length, &mut maps);
         assert_eq!(reply.number, 0, "a list that was saved is read");
         Open {
             form,
@@ -153,7 +200,9 @@ impl<'a> Open<'a> {
                 entries,
                 buffer: Vec::new(),
                 numbers: Vec::new(),
+                map: Vec::new(),
             },
+            maps,
             random,
             writes: Vec::new(),
             freed: Vec::new(),
@@ -217,19 +266,28 @@ impl<'a> Open<'a> {
         self.freed.push(number);
     }
 
-    /// Finishes, at first with too little room, which is refused and changes nothing; then with the room
+    /// Finishes, at first with a map that is a byte short, now and then with a number freed by mistake, and
+    /// with too little room, all of which are refused and change nothing but the map; then with the room
     /// that docs/HOST.md gives for every save.
     fn finish(mut self, values: Vec<Value>) -> Finished {
         let size = self.form.page_size();
-        let before = self.lent.clone();
-        let refused = self.form.finish(&self.save, &self.freed, &mut self.lent);
-        let enough = refused.number == 0;
+        let past = self.save.count - self.save.count.min(self.save.entries);
+        let bits = u64::from(self.save.bump) + past;
+        let needed = map::in_use(bits);
+        let freed = self.freed.clone();
+        let refused = self.attempt(&freed, needed - 1, bits);
+        assert_eq!(refused.number, 21, "a map that is too short is refused");
+        if let Some(mistaken) = self.mistaken() {
+            let refused = self.attempt(&mistaken, needed, bits);
+            assert_eq!(refused.number, 22, "a number that occurs twice is refused");
+        }
+        let first = self.attempt(&freed, needed + 2, bits);
         assert!(
-            enough || (refused.number == 6 || refused.number == 9) && self.lent == before,
-            "a finish without room is refused and leaves everything"
+            [0, 6, 9].contains(&first.number),
+            "a finish is refused for its room alone"
         );
-        let reply = if enough {
-            refused
+        let reply = if first.number == 0 {
+            first
         } else {
             let on_a_page = (size - 6) / 4;
             let pushed = self.freed.len() + self.save.pages as usize;
@@ -239,7 +297,7 @@ impl<'a> Open<'a> {
             self.lent.entries.resize(entries, FILLER);
             self.lent.buffer.resize(size * written, 0xA5);
             self.lent.numbers.resize(written, FILLER);
-            self.form.finish(&self.save, &self.freed, &mut self.lent)
+            self.attempt(&freed, needed, bits)
         };
         assert_eq!(reply.number, 0, "a finish with room succeeds");
         let [head, bump, length, pages, entries, written, ..] = reply.out;
@@ -262,5 +320,38 @@ impl<'a> Open<'a> {
             list_pages: written as usize,
             freed: self.freed,
         }
+    }
+
+    /// Finishes with these numbers freed, and with a map of so many bytes that hold anything. A refusal
+    /// leaves all but the map.
+    fn attempt(&mut self, freed: &[u32], length: usize, bits: u64) -> Reply {
+        self.lent.map = map::dirty(length, &mut self.maps);
+        let before = self.lent.clone();
+        let reply = self.form.finish(&self.save, freed, &mut self.lent);
+        map::check(reply.number, &before.map, &self.lent.map, bits);
+        if reply.number != 0 {
+            let map = self.lent.map.clone();
+            assert!(
+                self.lent == Lent { map, ..before },
+                "a finish that is refused leaves all but the map"
+            );
+        }
+        reply
+    }
+
+    /// The freed numbers, now and then with one more that is not to be freed: one of them, a list page or
+    /// an entry that was not handed out.
+    fn mistaken(&mut self) -> Option<Vec<u32>> {
+        let (pages, entries) = (self.save.pages as usize, self.save.entries as usize);
+        let left = entries.saturating_sub(self.save.count as usize);
+        let numbers = match self.maps.below(4) {
+            0 => &self.freed[..],
+            1 => &self.lent.pages[..pages],
+            2 => &self.lent.entries[..left],
+            _ => &[],
+        };
+        let at = self.maps.below(numbers.len().max(1) as u64) as usize;
+        let number = *numbers.get(at)?;
+        Some([&self.freed[..], &[number]].concat())
     }
 }

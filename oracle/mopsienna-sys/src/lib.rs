@@ -87,6 +87,8 @@ in_both! {
         pages_len: usize,
         entries: *mut u32,
         entries_len: usize,
+        map: *mut u8,
+        map_len: usize,
         out: &mut Out,
     ) -> u32;
     fn hand_out(
@@ -117,6 +119,8 @@ in_both! {
         buffer_len: usize,
         numbers: *mut u32,
         numbers_len: usize,
+        map: *mut u8,
+        map_len: usize,
         out: &mut Out,
     ) -> u32;
 }
@@ -132,13 +136,15 @@ pub struct Save {
     pub count: u64,
 }
 
-/// What is lent to a finish to be written: the list's two tables, the page buffer and its numbers.
+/// What is lent to a finish to be written: the list's two tables, the page buffer and its numbers, and the
+/// bit map.
 #[derive(Clone, Debug, PartialEq)]
 pub struct Lent {
     pub pages: Vec<u32>,
     pub entries: Vec<u32>,
     pub buffer: Vec<u8>,
     pub numbers: Vec<u32>,
+    pub map: Vec<u8>,
 }
 
 /// Answers the grown length.
@@ -164,7 +170,7 @@ impl Form {
         unsafe { call!(self, total(size, out)) }
     }
 
-    /// Reads a list into the two tables. Answers how many pages and entries it has.
+    /// Reads a list into the two tables, with this bit map. Answers how many pages and entries it has.
     #[inline]
     pub fn read_list(
         self,
@@ -172,8 +178,9 @@ impl Form {
         head: u32,
         pages: &mut [u32],
         entries: &mut [u32],
+        map: &mut [u8],
     ) -> Reply {
-        // SAFETY: the function reads only the store, and writes only to the tables and to the eight
+        // SAFETY: the function reads only the store, and writes only to the tables, the map and the eight
         // places of `out`.
         Reply::of(|out| unsafe {
             call!(
@@ -186,6 +193,8 @@ impl Form {
                     pages.len(),
                     entries.as_mut_ptr(),
                     entries.len(),
+                    map.as_mut_ptr(),
+                    map.len(),
                     out,
                 )
             )
@@ -226,7 +235,7 @@ impl Form {
     #[inline]
     pub fn finish(self, save: &Save, freed: &[u32], lent: &mut Lent) -> Reply {
         // SAFETY: the function reads only what it is lent, and writes only to the tables, the
-        // buffer, the numbers and the eight places of `out`.
+        // buffer, the numbers, the map and the eight places of `out`.
         Reply::of(|out| unsafe {
             call!(
                 self,
@@ -246,6 +255,8 @@ impl Form {
                     lent.buffer.len(),
                     lent.numbers.as_mut_ptr(),
                     lent.numbers.len(),
+                    lent.map.as_mut_ptr(),
+                    lent.map.len(),
                     out,
                 )
             )

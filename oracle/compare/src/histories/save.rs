@@ -8,7 +8,7 @@ use crate::{
     saves::{
         self,
         lent::{lent, Room},
-        model::After,
+        model::{left, After, Finish},
     },
     values::{
         calls::Writing,
@@ -36,12 +36,7 @@ impl<R: Values> Open<R> {
     pub fn start(history: &History<R>) -> io::Result<Open<R>> {
         let state = &history.state;
         let save = saves::open_save(state, 0);
-        let room = Room {
-            pages: save.pages as usize,
-            entries: save.entries as usize,
-            bytes: 0,
-            numbers: 0,
-        };
+        let room = Room::tables(save.pages as usize, save.entries as usize);
         Ok(Open {
             rust: history.rust.start(0),
             handing: R::open(state)?.start(0),
@@ -177,11 +172,37 @@ impl<R: Values> Open<R> {
     ) -> io::Result<After> {
         let finished = R::finish(self.rust, &self.freed)?;
         let after = saves::after(&history.rust, finished);
-        let saves = &mut comparison.saves;
         let list = &history.state.list;
-        saves.finishes::<R>(history.form, &self.save, list, &self.freed, &after, random);
-        saves.kind::<R>(&self.save, list, &self.freed, &after);
+        let finish = Finish::new(history.form, &self.save, list, &self.freed, &after);
+        if random.below(2) == 0 {
+            let mistaken = mistaken(comparison, &finish, random);
+            comparison.count(Event::AtLast);
+            let saves = &mut comparison.saves;
+            saves.finishes_at_last::<R>(&finish, mistaken.as_deref());
+        }
+        let saves = &mut comparison.saves;
+        saves.finishes::<R>(&finish, random);
+        saves.kind::<R>(&finish);
         history.set_length(after.state.length)?;
         Ok(after)
     }
+}
+
+/// The freed numbers with one more by mistake, at any place: one of them, a list page or an entry that is
+/// left, if there is one.
+fn mistaken(comparison: &mut Comparison, finish: &Finish, random: &mut Random) -> Option<Vec<u32>> {
+    let mut freed = finish.freed.to_vec();
+    let (event, numbers) = match random.below(4) {
+        0 => (Event::FreedTwice, freed.clone()),
+        1 => {
+            let pages = finish.list.iter().map(|(page, _)| *page);
+            (Event::FreedListPage, pages.collect())
+        }
+        2 => (Event::FreedEntry, left(finish.save, finish.list)),
+        _ => return None,
+    };
+    let number = *numbers.get(random.below(numbers.len().max(1) as u64) as usize)?;
+    freed.insert(random.below(freed.len() as u64 + 1) as usize, number);
+    comparison.count(event);
+    Some(freed)
 }

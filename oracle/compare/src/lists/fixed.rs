@@ -20,7 +20,8 @@ pub fn each(check: &mut impl FnMut(&Case)) -> io::Result<()> {
 pub const MOST: usize = u32::MAX as usize * PAGE;
 
 /// A store's length, the counts of entries on its list's pages from the bottom up, and harms. The
-/// list's pages are 1, 2 and so on, and its entries go through all pages of the store.
+/// list's pages are 1, 2 and so on, and its entries the pages behind them. Where the store has too few, the
+/// entries go on from page 1, and numbers come twice.
 const TABLE: &[(usize, &[usize], &[Harm])] = &[
     // The list is empty.
     (0, &[], &[]),
@@ -49,7 +50,8 @@ const TABLE: &[(usize, &[usize], &[Harm])] = &[
     (2 * PAGE, &[1], &[Entry(1, 0, 0)]),
     (2 * PAGE, &[1], &[Entry(1, 0, 2)]),
     (2 * PAGE, &[1], &[Entry(1, 0, u32::MAX)]),
-    (2 * PAGE, &[1], &[Entry(1, 1, 0)]),
+    (3 * PAGE, &[1], &[Entry(1, 1, 0)]),
+    (3 * PAGE, &[1], &[Entry(1, 1, 2)]),
     (2 * PAGE, &[1], &[Entry(1, 0, 0), Prev(1, 1)]),
     (2 * PAGE, &[1], &[Entry(1, 0, 0), Prev(1, 2)]),
     (3 * PAGE - 1, &[1], &[Entry(1, 0, 2)]),
@@ -69,7 +71,43 @@ const TABLE: &[(usize, &[usize], &[Harm])] = &[
     (8 * PAGE, &[FULL; 7], &[Prev(1, 7)]),
     (8 * PAGE, &[FULL; 7], &[Prev(1, 1)]),
     // As long as a list can be.
+    (7 * (FULL + 1) * PAGE + PAGE, &[FULL; 7], &[]),
+    // A number comes twice: an entry on a page, on two pages, and a list page as an entry of its own, of
+    // one above it and of one below it. Between them lie none, one and many.
+    (2 * PAGE, &[1], &[]),
+    (3 * PAGE, &[2], &[Entry(1, 1, 2)]),
+    (4 * PAGE, &[2], &[Entry(1, 1, 1)]),
+    (2000 * PAGE, &[3], &[Entry(1, 2, 2)]),
+    (2000 * PAGE, &[FULL], &[Entry(1, FULL - 1, 2)]),
+    (2000 * PAGE, &[FULL], &[Entry(1, FULL - 1, FULL as u32)]),
+    (2000 * PAGE, &[FULL], &[Entry(1, 0, 1)]),
+    (2000 * PAGE, &[FULL, 1], &[Entry(2, 0, 3)]),
+    (2000 * PAGE, &[FULL, 1], &[Entry(2, 0, FULL as u32 + 2)]),
+    (2000 * PAGE, &[FULL, 1], &[Entry(2, 0, 1)]),
+    (2000 * PAGE, &[FULL, 1], &[Entry(2, 0, 2)]),
+    (2000 * PAGE, &[FULL, 1], &[Entry(1, 500, 1)]),
+    (2000 * PAGE, &[FULL, 1], &[Entry(1, 500, 2)]),
+    (2000 * PAGE, &[FULL - 1, 1], &[Entry(1, 0, FULL as u32 + 2)]),
+    (4000 * PAGE, &[FULL, FULL, 9], &[Entry(3, 8, 4)]),
+    (4000 * PAGE, &[FULL, FULL, 9], &[Entry(1, 0, 3)]),
+    (4000 * PAGE, &[FULL, FULL, 9], &[Entry(3, 0, 1)]),
     (8 * PAGE, &[FULL; 7], &[]),
+    // The first and the last number that the map has a bit for, each once and twice.
+    (8 * PAGE, &[2], &[Entry(1, 1, 7)]),
+    (8 * PAGE, &[2], &[Entry(1, 0, 7), Entry(1, 1, 7)]),
+    (9 * PAGE, &[2], &[Entry(1, 1, 8)]),
+    (9 * PAGE, &[2], &[Entry(1, 0, 8), Entry(1, 1, 8)]),
+    (10 * PAGE, &[2], &[Entry(1, 0, 9), Entry(1, 1, 9)]),
+    (
+        9 * PAGE,
+        &[],
+        &[Head(8), Prev(8, 0), Count(8, 1), Entry(8, 0, 1)],
+    ),
+    (
+        9 * PAGE,
+        &[],
+        &[Head(8), Prev(8, 0), Count(8, 1), Entry(8, 0, 8)],
+    ),
     // Other shapes.
     (3 * PAGE, &[1, 1], &[]),
     (3 * PAGE, &[0, 1], &[]),
@@ -101,6 +139,12 @@ const TABLE: &[(usize, &[usize], &[Harm])] = &[
     (MOST + PAGE, &[1], &[Entry(1, 0, u32::MAX)]),
     (MOST + PAGE, &[1], &[Head(u32::MAX)]),
     (MOST + 2 * PAGE, &[1], &[Entry(1, 0, u32::MAX - 1)]),
+    // The same, with a number twice.
+    (
+        MOST,
+        &[2],
+        &[Entry(1, 0, u32::MAX - 1), Entry(1, 1, u32::MAX - 1)],
+    ),
 ];
 
 /// Passes on every shape that is accepted, up to some number of pages, in stores of some lengths.
@@ -117,22 +161,21 @@ pub fn each_healthy(short: bool, check: &mut impl FnMut(&Case)) -> io::Result<()
             .collect();
         shapes.push([vec![FULL; whole], vec![FULL - 1, 1]].concat());
         for counts in shapes {
+            let numbers = counts.len() + counts.iter().sum::<usize>();
             for more in [PAGE, 3 * PAGE - 1, 20 * PAGE + 1] {
-                let length = counts.len() * PAGE + more;
+                let length = numbers * PAGE + more;
                 check(&Case::new(length, in_order(length, &counts), &[])?);
             }
         }
     }
-    // Entries that all differ, and list pages among them.
-    let length = 2000 * PAGE;
-    check(&Case::new(length, in_order(length, &[FULL, 900]), &[])?);
     Ok(())
 }
 
-/// A list on pages 1, 2 and so on, with entries that go through all pages of the store.
+/// A list on pages 1, 2 and so on, with entries that go on behind them through all pages of the store.
 fn in_order(length: usize, counts: &[usize]) -> Portions {
     let last_page = (length / PAGE).saturating_sub(1).min(u32::MAX as usize);
-    let mut numbers = (1..=last_page as u32).cycle().map(PageNumber);
+    let all = (1..=last_page as u32).cycle().map(PageNumber);
+    let mut numbers = all.skip(counts.len());
     let entries = counts.iter().map(|n| numbers.by_ref().take(*n).collect());
     (1..).map(PageNumber).zip(entries).collect()
 }

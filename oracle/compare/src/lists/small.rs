@@ -1,36 +1,57 @@
-//! Lists in small stores, to be recorded: what the model accepts is read by the Rust.
+//! Lists in small stores, at small page sizes, and some at 4,096 bytes. They are recorded too.
 
-use super::model;
+use super::{expected, model, Comparison, Room};
 use crate::{
+    map,
+    numbers::Numbers,
     record::{Kind, Line},
     Plan,
 };
-use common::{Random, Store};
-use mopsienna_sys::Reply;
-use nomt_plain::Rust;
+use common::{lists::Portions, Random, Store};
+use mopsienna_sys::Form;
+use nomt_plain::{List, Rust};
 use std::io;
 
-/// How many lists are looked at for each small page size, and at 4,096 bytes.
-const LISTS: u64 = 4000;
-const LARGE_LISTS: u64 = 100;
+/// There is one list at each small page size for so many random cases of other operations, and fewer at
+/// 4,096 bytes; but as many as these where they are recorded.
+const SHARE: u64 = 100;
+const RECORDED: u64 = 4000;
+const LARGE_SHARE: u64 = 40;
 
-pub fn record_all(plan: &Plan) -> io::Result<()> {
-    record::<nomt_16::Plain>(plan, LISTS)?;
-    record::<nomt_20::Plain>(plan, LISTS)?;
-    record::<nomt_24::Plain>(plan, LISTS)?;
-    record::<nomt_28::Plain>(plan, LISTS)?;
-    record::<nomt_32::Plain>(plan, LISTS)?;
-    record::<nomt_4096::Plain>(plan, LARGE_LISTS)
+/// Stores of pages like these have only a few of them, so that a line that is recorded is not too long.
+const LARGE: usize = 1000;
+const MOST_BYTES: usize = 30_000;
+
+pub(super) fn each(plan: &Plan, comparison: &mut Comparison) -> io::Result<()> {
+    let recorded = plan.recorder.is_on();
+    let lists = if recorded {
+        RECORDED
+    } else {
+        plan.count / SHARE
+    };
+    at::<nomt_16::Plain>(plan, comparison, lists)?;
+    at::<nomt_20::Plain>(plan, comparison, lists)?;
+    at::<nomt_24::Plain>(plan, comparison, lists)?;
+    at::<nomt_28::Plain>(plan, comparison, lists)?;
+    at::<nomt_32::Plain>(plan, comparison, lists)?;
+    at::<nomt_4096::Plain>(plan, comparison, lists / LARGE_SHARE)
 }
 
-fn record<R: Rust>(plan: &Plan, lists: u64) -> io::Result<()> {
+fn at<R: Rust>(plan: &Plan, comparison: &mut Comparison, lists: u64) -> io::Result<()> {
     let mut random = Random::new(plan.seed);
     for list in 0..lists {
-        let pages = random.below(2 + u64::from((list + 1).ilog2() / 2)) as usize;
-        let others = 1 + random.below(3) as usize;
+        let most_pages = 1 + u64::from((list + 1).ilog2() / 2);
+        let counts = random_counts::<R>(most_pages, &mut random);
+        // Mostly there are pages enough for numbers that all differ.
+        let entries = match random.below(4) {
+            0 => 0,
+            _ => counts.iter().sum(),
+        };
+        let most_entries = (MOST_BYTES / R::PAGE_SIZE).saturating_sub(counts.len() + 3);
+        let pages = counts.len() + entries.min(most_entries) + 1 + random.below(3) as usize;
         let partial = random.pick(&[0, 0, 1, R::PAGE_SIZE - 1]);
-        let mut store = Store::new((pages + others) * R::PAGE_SIZE + partial)?;
-        let head = fill::<R>(store.bytes_mut(), pages, &mut random);
+        let mut store = Store::new(pages * R::PAGE_SIZE + partial)?;
+        fill::<R>(store.bytes_mut(), &counts, &mut random);
         if random.below(3) == 0 {
             let place = random.below(store.bytes().len() as u64) as usize;
             store.bytes_mut()[place] = random.below(4) as u8;
@@ -39,76 +60,128 @@ fn record<R: Rust>(plan: &Plan, lists: u64) -> io::Result<()> {
         if random.below(20) == 0 {
             store.cut(cut)?;
         }
-        let head = random.pick(&[head, head, head, head, head, head, head, cut as u32 % 9]);
-        one::<R>(plan, &store, head, &mut random)?;
+        let head = match random.below(8) {
+            0 => cut as u32 % 9,
+            _ => counts.len() as u32,
+        };
+        one::<R>(plan, comparison, &store, head, &mut random)?;
     }
     Ok(())
 }
 
-/// Writes a list of so many pages, each behind the one below it, with any entries. Gives its head.
-fn fill<R: Rust>(store: &mut [u8], pages: usize, random: &mut Random) -> u32 {
-    let page_count = (store.len() / R::PAGE_SIZE) as u64;
-    let fragmented = pages >= 2 && random.below(4) == 0;
-    for page in 1..=pages {
-        let count = match pages - page {
-            0 if fragmented => 1,
-            0 => 1 + random.below(R::CAPACITY as u64) as usize,
-            1 if fragmented => R::CAPACITY - 1,
-            _ => R::CAPACITY,
-        };
-        let bytes = &mut store[page * R::PAGE_SIZE..][..R::PAGE_SIZE];
-        bytes[0] = page as u8 - 1;
-        bytes[4..6].copy_from_slice(&(count as u16).to_le_bytes());
-        for entry in 0..count {
-            let number = 1 + random.below((page_count - 1).max(1)) as u32;
-            bytes[6 + 4 * entry..][..4].copy_from_slice(&number.to_le_bytes());
-        }
+/// How many entries are on each page of a list, from the bottom page up. Where a page holds many, there are
+/// often only a few.
+fn random_counts<R: Rust>(most_pages: u64, random: &mut Random) -> Vec<usize> {
+    let pages = random.below(1 + most_pages) as usize;
+    if pages == 1 && R::PAGE_SIZE > LARGE && random.below(2) == 0 {
+        return vec![1 + random.below(4) as usize];
     }
-    pages as u32
+    let mut counts = vec![R::CAPACITY; pages];
+    match counts.as_mut_slice() {
+        [.., under, head] if random.below(4) == 0 => (*under, *head) = (R::CAPACITY - 1, 1),
+        [.., head] => *head = 1 + random.below(R::CAPACITY as u64) as usize,
+        [] => (),
+    }
+    counts
 }
 
-/// Records a list, with tables of any lengths near its own.
-fn one<R: Rust>(plan: &Plan, store: &Store, head: u32, random: &mut Random) -> io::Result<()> {
+/// Writes a list with so many entries on each page to the pages from 1 up. The entries are pages of the
+/// store in any order, those behind the list mostly.
+fn fill<R: Rust>(store: &mut [u8], counts: &[usize], random: &mut Random) {
+    let page_count = (store.len() / R::PAGE_SIZE) as u64;
+    let behind = counts.len() as u64 + 1;
+    let least = match random.below(4) {
+        0 => 1,
+        _ => behind.min(page_count - 1).max(1),
+    };
+    let mut numbers = Numbers::new(least..page_count.max(2), random);
+    for (below, count) in counts.iter().enumerate() {
+        let bytes = &mut store[(below + 1) * R::PAGE_SIZE..][..R::PAGE_SIZE];
+        bytes[0] = below as u8;
+        bytes[4..6].copy_from_slice(&(*count as u16).to_le_bytes());
+        for (place, entry) in bytes[6..]
+            .chunks_exact_mut(4)
+            .zip(numbers.by_ref().take(*count))
+        {
+            place.copy_from_slice(&entry.to_le_bytes());
+        }
+    }
+}
+
+/// Compares the reading of a list, with room near to what it needs, and records it.
+fn one<R: Rust>(
+    plan: &Plan,
+    comparison: &mut Comparison,
+    store: &Store,
+    head: u32,
+    random: &mut Random,
+) -> io::Result<()> {
     let model = model::read(R::PAGE_SIZE, store.bytes(), head);
-    let list = match &model {
-        Ok(_) => R::read(store.file(), head)?.list,
-        Err(_) => vec![],
+    let text = || {
+        format!(
+            "page size {}, head {head}, store {:?}",
+            R::PAGE_SIZE,
+            store.bytes()
+        )
     };
-    let mut pages: Vec<u32> = list.iter().map(|(page, _)| *page).collect();
-    let mut entries: Vec<u32> = list.into_iter().flat_map(|(_, entries)| entries).collect();
-    let (page_count, entry_count) = (pages.len(), entries.len());
-    pages.resize(any_room(page_count, random), 0);
-    entries.resize(any_room(entry_count, random), 0);
-    let fits = page_count <= pages.len() && entry_count <= entries.len();
-    let reply = match model {
-        Ok(_) if fits => Reply::answer(&[page_count as u64, entry_count as u64]),
-        Ok(_) => Reply::refusal(model::TABLES, &[]),
-        Err(refusal) => refusal,
+    let (page_count, entry_count) = match &model.list {
+        Ok(list) => {
+            let rust = R::read(store.file(), head)?.list;
+            if rust != plain(list) {
+                comparison
+                    .report
+                    .disagree_at_call("the Rust reads another list", text);
+            }
+            model::size(list)
+        }
+        Err(_) => (0, 0),
     };
+    let room = Room {
+        pages: any_room(page_count, random),
+        entries: any_room(entry_count, random),
+        map: any_room(map::in_use(model.bits), random),
+    };
+    let form = Form::Sized(R::PAGE_SIZE as u64);
+    comparison.check_library(form, store.bytes(), head, &model, room, text);
+
+    let (reply, tables) = expected(&model, room);
     let (most, kept) = match reply.number {
         0 => (44, (page_count, entry_count)),
+        map::REPEAT => (12, (0, 0)),
         _ => (4, (0, 0)),
     };
     let bytes = store.bytes();
     let class = format!("{} harmed", R::PAGE_SIZE);
-    let full = reply.number == 0 && page_count > 1;
-    let fragmented = full && entry_count == R::CAPACITY * (page_count - 1);
+    let found = matches!(reply.number, 0 | map::REPEAT);
+    let large = R::PAGE_SIZE > LARGE;
+    let long = found && (page_count > 1 || large && page_count > 0);
+    let fragmented = page_count > 1 && entry_count == R::CAPACITY * (page_count - 1);
+    let told_apart = page_count.min(if large { 2 } else { 4 });
+    let shape = format!("{} {told_apart} {fragmented}", R::PAGE_SIZE);
     plan.recorder.keep(most, class, bytes.len(), || {
         Line::new(Kind::ReadList)
             .number(R::PAGE_SIZE as u64)
             .number(head)
             .array(bytes)
-            .length(&pages)
-            .length(&entries)
+            .length(&tables.pages)
+            .length(&tables.entries)
+            .number(room.map as u64)
             .reply(&reply)
-            .places(&pages, kept.0)
-            .places(&entries, kept.1)
-            .long(full.then(|| format!("{} {fragmented}", R::PAGE_SIZE)))
+            .places(&tables.pages, kept.0)
+            .places(&tables.entries, kept.1)
+            .map(room.map, map::cleared_by(&reply, model.bits))
+            .long(long.then_some(shape))
     });
     Ok(())
 }
 
-/// A length of a table for so many numbers: just so many, more, or one less.
+fn plain(list: &Portions) -> List {
+    let entries = list.iter().map(|(_, entries)| entries);
+    let entries = entries.map(|entries| entries.iter().map(|entry| entry.0).collect());
+    list.iter().map(|(page, _)| page.0).zip(entries).collect()
+}
+
+/// A length for so many places: just so many, more, or one less.
 fn any_room(length: usize, random: &mut Random) -> usize {
     match random.below(8) {
         0 => length.saturating_sub(1),

@@ -3,11 +3,12 @@
 
 use super::{
     after,
-    lent::Room,
-    model::{self, LAST_BUMP},
+    lent::{list_text, Room},
+    model::{self, Finish, LAST_BUMP},
     open_save, Comparison, Form, FINISH, HAND_OUT,
 };
-use nomt_plain::{Rust, State};
+use crate::map;
+use nomt_plain::{List, Rust, State};
 use std::io;
 
 /// The greatest length that a store is given.
@@ -17,6 +18,7 @@ pub fn each<R: Rust>(comparison: &mut Comparison, form: Form) -> io::Result<()> 
     handed_out::<R>(comparison, form)?;
     list_page_past_the_limit::<R>(comparison, form)?;
     bad_freed::<R>(comparison, form)?;
+    repeats::<R>(comparison, form)?;
     left_bytes::<R>(comparison)
 }
 
@@ -62,7 +64,7 @@ fn list_page_past_the_limit<R: Rust>(comparison: &mut Comparison, form: Form) ->
         (LAST_LENGTH, LAST_LENGTH, "takes the bump for a list page"),
         (last, 0, "takes the bump for a list page and cuts the store"),
     ] {
-        let state = finish::<R>(comparison, form, &empty(last, length), 5)?.state();
+        let state = finish::<R>(comparison, form, &empty(last, length), 0, &[5])?.state();
         let as_said = state
             == State {
                 bump: last + 1,
@@ -79,13 +81,118 @@ fn list_page_past_the_limit<R: Rust>(comparison: &mut Comparison, form: Form) ->
 /// Numbers that are none, freed.
 fn bad_freed<R: Rust>(comparison: &mut Comparison, form: Form) -> io::Result<()> {
     for freed in [0, 30] {
-        let rust = finish::<R>(comparison, form, &empty(30, 8192), freed)?;
+        let rust = finish::<R>(comparison, form, &empty(30, 8192), 0, &[freed])?;
         let list = rust.state().list;
         let (next, _) = R::hand_out(&rust.start(0))?;
         let as_said = list == [(30, vec![freed])] && next == freed;
         let does = "keeps it in the list and hands it out";
         note(comparison, FINISH, as_said, model::FREED, does, || {
             format!("bump 30, {freed} freed: {list:?}, then {next}")
+        });
+    }
+    Ok(())
+}
+
+const TWICE: &str = "hands a number out twice";
+const LIST_PAGE: &str = "hands out a list page";
+const OVER: &str = "writes over the head";
+
+/// A bump, a list, how many numbers are handed out, and those freed.
+type Before<'a> = (u32, List, usize, &'a [u32]);
+
+/// The list after the finish, and what the next save is handed.
+type Then<'a> = (List, &'a [u32]);
+
+/// Numbers that occur twice, or lie at the bump.
+fn repeats<R: Rust>(comparison: &mut Comparison, form: Form) -> io::Result<()> {
+    let full: Vec<u32> = (101..).take(R::CAPACITY).collect();
+    let one = |page: u32, entries: &[u32]| vec![(page, entries.to_vec())];
+    let on_full =
+        |page: u32, entries: &[u32]| [vec![(10, full.clone())], one(page, entries)].concat();
+    let cases: [(Before, Then, &str); 14] = [
+        // A number is freed twice; a list page is freed, also an emptied one.
+        ((30, vec![], 0, &[5, 5]), (one(30, &[5, 5]), &[5, 5]), TWICE),
+        (
+            (30, one(10, &[20]), 0, &[10]),
+            (one(20, &[10, 10]), &[10, 10]),
+            TWICE,
+        ),
+        (
+            (30, one(10, &[20]), 1, &[10]),
+            (one(30, &[10, 10]), &[10, 10]),
+            TWICE,
+        ),
+        // An entry is freed that was not handed out, and a list page below the head.
+        (
+            (30, one(10, &[20]), 0, &[20]),
+            (one(20, &[20, 10]), &[10, 20]),
+            LIST_PAGE,
+        ),
+        (
+            (30, one(10, &[20, 21]), 0, &[20]),
+            (one(21, &[20, 20, 10]), &[10, 20, 20]),
+            TWICE,
+        ),
+        (
+            (2000, on_full(11, &[40]), 0, &[10]),
+            (on_full(40, &[10, 11]), &[11, 10]),
+            LIST_PAGE,
+        ),
+        // An entry stands twice on the list; an entry is a list page.
+        (
+            (30, one(10, &[20, 20]), 0, &[]),
+            (one(10, &[20, 20]), &[20, 20]),
+            TWICE,
+        ),
+        (
+            (30, one(10, &[10]), 0, &[]),
+            (one(10, &[10]), &[10]),
+            LIST_PAGE,
+        ),
+        // A list page at the bump.
+        (
+            (10, one(10, &[5]), 0, &[]),
+            (one(10, &[5]), &[5, 10]),
+            LIST_PAGE,
+        ),
+        (
+            (10, one(10, &[5]), 0, &[6]),
+            (one(5, &[6, 10]), &[10, 6, 10]),
+            TWICE,
+        ),
+        ((10, one(10, &[5]), 1, &[]), (one(10, &[10]), &[10]), OVER),
+        // An entry at the bump.
+        (
+            (10, one(5, &[10]), 0, &[]),
+            (one(5, &[10]), &[10, 10]),
+            TWICE,
+        ),
+        (
+            (10, one(5, &[10]), 0, &[6]),
+            (one(10, &[6, 5]), &[5, 6, 10]),
+            LIST_PAGE,
+        ),
+        (
+            (10, one(5, &[10, 6]), 1, &[]),
+            (one(10, &[5]), &[5, 10]),
+            LIST_PAGE,
+        ),
+    ];
+    for ((bump, list, count, freed), (list_after, handed), does) in cases {
+        let state = State {
+            bump,
+            length: 8192,
+            list,
+        };
+        let rust = finish::<R>(comparison, form, &state, count, freed)?;
+        let list = rust.state().list;
+        let numbers = (0..handed.len()).map(|count| Ok(R::hand_out(&rust.start(count))?.0));
+        let next: Vec<u32> = numbers.collect::<io::Result<_>>()?;
+        let as_said = list == list_after && next == handed;
+        let [before, after] = [&state.list, &list].map(list_text);
+        note(comparison, FINISH, as_said, map::REPEAT, does, || {
+            let given = format!("bump {bump}, list {before}{count} handed out, {freed:?} freed");
+            format!("{given}: list {after}then {next:?}")
         });
     }
     Ok(())
@@ -128,22 +235,25 @@ fn hand_out<R: Rust>(
     R::hand_out(&R::open(state)?.start(count as usize))
 }
 
-/// Finishes with this number freed, which the library has to refuse. Gives the Rust's store.
+/// Finishes behind so many numbers handed out, with these freed, which the library has to refuse. Gives the
+/// Rust's store.
 fn finish<R: Rust>(
     comparison: &mut Comparison,
     form: Form,
     state: &State,
-    freed: u32,
+    count: usize,
+    freed: &[u32],
 ) -> io::Result<R> {
     let rust = R::open(state)?;
-    let after = after(&rust, R::finish(rust.start(0), &[freed])?);
-    let room = Room {
-        pages: 2,
-        entries: 2,
-        bytes: 2 * R::PAGE_SIZE,
-        numbers: 2,
+    let after = after(&rust, R::finish(rust.start(count), freed)?);
+    let save = open_save(state, count as u64);
+    let finish = Finish::new(form, &save, &state.list, freed, &after);
+    let map = match map::in_use(finish.bits()) {
+        enough @ 0..=1000 => enough,
+        _ => 0,
     };
-    comparison.finishing::<R>(form, &open_save(state, 0), &vec![], &[freed], room, &after);
+    let [_, ample, ..] = Room::around::<R>(&state.list, &after, map);
+    comparison.finishing::<R>(&finish, ample);
     Ok(rust)
 }
 

@@ -3,7 +3,8 @@
 use super::{
     after,
     lent::{lent, Room},
-    model, open_save, Comparison, Form, FINISH,
+    model::{self, Finish},
+    open_save, Comparison, Form, FINISH,
 };
 use common::Random;
 use nomt_plain::{List, Rust, State};
@@ -91,13 +92,7 @@ fn check<R: Rust>(comparison: &mut Comparison, form: Form, sample: &Sample) -> i
     let rust = R::open(&state)?;
     let count = sample.handed.len();
     let (pages, entries) = model::size(&state.list);
-    let room = Room {
-        pages,
-        entries,
-        bytes: 0,
-        numbers: 0,
-    };
-    let tables = lent(&state.list, room);
+    let tables = lent(&state.list, Room::tables(pages, entries));
     let mut numbers = vec![];
     for handed in 0..count {
         let save = open_save(&state, handed as u64);
@@ -123,8 +118,9 @@ fn check<R: Rust>(comparison: &mut Comparison, form: Form, sample: &Sample) -> i
     let save = open_save(&state, count as u64);
     let mut random = Random::new(1);
     let list = &state.list;
-    comparison.finishes::<R>(form, &save, list, &sample.freed, &after, &mut random);
-    comparison.kind::<R>(&save, list, &sample.freed, &after);
+    let finish = Finish::new(form, &save, list, &sample.freed, &after);
+    comparison.finishes::<R>(&finish, &mut random);
+    comparison.kind::<R>(&finish);
     Ok(())
 }
 

@@ -4,7 +4,8 @@
 use super::{
     after,
     lent::{lent, Room},
-    model, open_save, released, Comparison, Form,
+    model::{self, Finish},
+    open_save, released, Comparison, Form,
 };
 use common::{Random, Store};
 use nomt_plain::{List, Rust, State};
@@ -176,13 +177,7 @@ impl<R: Rust> History<R> {
     /// Opens a save and hands out so many numbers on both sides.
     fn hand_out(&mut self, comparison: &mut Comparison, count: usize) -> io::Result<()> {
         let (pages, entries) = model::size(&self.state.list);
-        let room = Room {
-            pages: pages + 2,
-            entries: entries + 5,
-            bytes: 0,
-            numbers: 0,
-        };
-        let tables = lent(&self.state.list, room);
+        let tables = lent(&self.state.list, Room::tables(pages + 2, entries + 5));
         let open = self.rust.start(0);
         let mut save = open_save(&self.state, 0);
         for handed in 0..count {
@@ -220,8 +215,9 @@ impl<R: Rust> History<R> {
         let after = after(&self.rust, R::finish(open, &freed)?);
         let save = open_save(&self.state, count);
         let list = &self.state.list;
-        comparison.finishes::<R>(self.form, &save, list, &freed, &after, random);
-        comparison.kind::<R>(&save, list, &freed, &after);
+        let finish = Finish::new(self.form, &save, list, &freed, &after);
+        comparison.finishes::<R>(&finish, random);
+        comparison.kind::<R>(&finish);
 
         self.store
             .set_length(after.state.bump as usize * R::PAGE_SIZE)?;

@@ -1,10 +1,9 @@
 //! The kinds of saves: each has a way of its own through the finish.
 
 use super::{
-    model::{self, After},
-    released, Comparison,
+    model::{self, Finish},
+    released, Comparison, FINISH,
 };
-use mopsienna_sys::Save;
 use nomt_plain::{List, Rust};
 
 /// The kinds of saves that have to be reached.
@@ -19,8 +18,20 @@ pub const KINDS: [&str; 7] = [
 ];
 
 impl Comparison<'_> {
-    /// Counts the kinds that a save is of.
-    pub fn kind<R: Rust>(&mut self, save: &Save, list: &List, freed: &[u32], after: &After) {
+    /// Counts the kinds that a save is of, whose numbers have to be such that it is not refused for them.
+    pub fn kind<R: Rust>(&mut self, finish: &Finish) {
+        let Finish {
+            save,
+            list,
+            freed,
+            after,
+            ..
+        } = *finish;
+        if finish.repeats {
+            self.reports[FINISH].disagree_at_call("a number occurs twice", || {
+                format!("{save:?}, list {list:?}")
+            });
+        }
         let new = &after.state.list;
         let fragmented = |list: &List| {
             let (pages, entries) = model::size(list);
@@ -36,7 +47,7 @@ impl Comparison<'_> {
         let unchanged = popped == 0 && freed.is_empty();
         let kinds = [
             unchanged,
-            u64::from(after.state.bump) > model::freed_limit(save),
+            u64::from(after.state.bump) > model::limit(save),
             renumbered > expected,
             renumbered > expected + 1,
             fragmented(new) && !unchanged,

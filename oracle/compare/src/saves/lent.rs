@@ -12,12 +12,26 @@ pub struct Room {
     pub entries: usize,
     pub bytes: usize,
     pub numbers: usize,
+    /// Bytes of the bit map.
+    pub map: usize,
 }
 
 impl Room {
-    /// What a finish needs, and more; then one place less of each; and at last one page less in the
-    /// table, with no buffer.
-    pub fn around<R: Rust>(list: &List, after: &After) -> [Room; 7] {
+    /// Places of both tables alone.
+    pub fn tables(pages: usize, entries: usize) -> Room {
+        Room {
+            pages,
+            entries,
+            bytes: 0,
+            numbers: 0,
+            map: 0,
+        }
+    }
+
+    /// What a finish needs with a map of so many bytes, and more; then one place less of each table, of
+    /// the buffer and of its numbers; one page less in the table, with no buffer; and at last a map of a byte
+    /// less.
+    pub fn around<R: Rust>(list: &List, after: &After, map: usize) -> [Room; 8] {
         let (pages, entries) = model::size(list);
         let (new_pages, new_entries) = model::size(&after.state.list);
         let written = after.written.len();
@@ -26,14 +40,16 @@ impl Room {
             entries: entries.max(new_entries),
             bytes: written * R::PAGE_SIZE,
             numbers: written,
+            map,
         };
         let ample = Room {
             pages: exact.pages + 2,
             entries: exact.entries + 5,
             bytes: exact.bytes + R::PAGE_SIZE + 3,
             numbers: exact.numbers + 2,
+            map: map + 3,
         };
-        let [mut pages, mut entries, mut bytes, mut numbers] = [ample; 4];
+        let [mut pages, mut entries, mut bytes, mut numbers, mut short] = [ample; 5];
         pages.pages = exact.pages.saturating_sub(1);
         entries.entries = exact.entries.saturating_sub(1);
         bytes.bytes = exact.bytes.saturating_sub(1);
@@ -44,12 +60,13 @@ impl Room {
             numbers: 0,
             ..exact
         };
-        [exact, ample, pages, entries, bytes, numbers, least]
+        short.map = map.saturating_sub(1);
+        [exact, ample, pages, entries, bytes, numbers, least, short]
     }
 }
 
 /// So much room, with the list in the tables as far as they go. Every other place holds a number of
-/// its own, so that a place written is noticed; no byte is 0.
+/// its own, so that a place written is noticed; no byte of the buffer is 0. The map is zeros.
 pub fn lent(list: &List, room: Room) -> Lent {
     let numbers = |start: u32, length: usize| (start..).take(length).collect();
     let mut lent = Lent {
@@ -57,6 +74,7 @@ pub fn lent(list: &List, room: Room) -> Lent {
         entries: numbers(0x5A5A_0000, room.entries),
         buffer: (0..room.bytes).map(|at| 1 + (at % 255) as u8).collect(),
         numbers: numbers(0xC3C3_0000, room.numbers),
+        map: vec![0; room.map],
     };
     put_list(&mut lent, list);
     lent

@@ -10,6 +10,7 @@ pub trait Library {
         head: u32,
         pages: &mut [u32],
         entries: &mut [u32],
+        map: &mut [u8],
     ) -> Reply;
 
     fn hand_out(&self, form: Form, save: &Save, pages: &[u32], entries: &[u32]) -> Reply;
@@ -28,8 +29,9 @@ impl Library for Linked {
         head: u32,
         pages: &mut [u32],
         entries: &mut [u32],
+        map: &mut [u8],
     ) -> Reply {
-        form.read_list(store, head, pages, entries)
+        form.read_list(store, head, pages, entries, map)
     }
 
     fn hand_out(&self, form: Form, save: &Save, pages: &[u32], entries: &[u32]) -> Reply {

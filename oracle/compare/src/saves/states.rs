@@ -1,17 +1,21 @@
-//! Random states: any bump, recorded length, list and count, standing or not, up to the limits.
+//! Random states: any bump, recorded length, list and count, standing or not, up to the limits. Mostly
+//! all numbers differ and lie below the bump.
 
 use super::{
     after,
     lent::{lent, Room},
     model, Comparison, Form, FINISH,
 };
-use crate::record::{Kind, Line};
+use crate::{
+    numbers::Numbers,
+    record::{Kind, Line},
+};
 use common::Random;
 use mopsienna_sys::{Lent, Reply, Save};
 use nomt_plain::{List, Rust, State};
 use std::io;
 
-use model::LAST_BUMP;
+use model::{Finish, LAST_BUMP};
 
 pub fn each<R: Rust>(
     comparison: &mut Comparison,
@@ -28,8 +32,8 @@ pub fn each<R: Rust>(
 
 /// Hands out from one state, and finishes it.
 fn one<R: Rust>(comparison: &mut Comparison, form: Form, random: &mut Random) -> io::Result<()> {
-    let list = any_list(R::CAPACITY, random);
-    let (pages, entries) = model::size(&list);
+    let counts = any_counts(R::CAPACITY, random);
+    let (pages, entries) = (counts.len(), counts.iter().sum());
     let mut save = Save {
         bump: any_bump(random),
         length: any_length(random),
@@ -38,17 +42,33 @@ fn one<R: Rust>(comparison: &mut Comparison, form: Form, random: &mut Random) ->
         count: 0,
     };
     save.count = any_count(&save, random);
+    // What freed numbers have to be below, unless the save is refused anyhow.
+    let past = save.count.saturating_sub(save.entries);
+    let limit = u64::from(save.bump).saturating_add(past).min(LAST_BUMP);
+    let mut numbers = Numbers::new(random.below(2).min(limit - 1)..limit, random);
+    let mut list = list_of(&counts, &mut numbers);
+    let mut freed: Vec<u32> = numbers
+        .take(any_freed(R::CAPACITY, random))
+        .filter(|number| *number != 0)
+        .collect();
+    if random.below(3) == 0 {
+        for _ in 0..1 + random.below(2) {
+            twist(&mut list, &mut freed, limit, random);
+        }
+    }
     let mut room = Room {
         pages,
         entries,
         bytes: 3 * R::PAGE_SIZE,
         numbers: 3,
+        map: random.below(40) as usize,
     };
     if random.below(4) == 0 {
         unsettle(R::CAPACITY, &mut save, &mut room, random);
     }
 
-    let tables = lent(&list, room);
+    let mut tables = lent(&list, room);
+    random.fill(&mut tables.map);
     let state = State {
         bump: save.bump,
         length: save.length,
@@ -59,7 +79,6 @@ fn one<R: Rust>(comparison: &mut Comparison, form: Form, random: &mut Random) ->
         R::hand_out(&R::open(&standing::<R>(&state, &save))?.start(save.count as usize))
     })?;
 
-    let freed = any_freed(R::CAPACITY, &save, random);
     let refusal = model::finish_at_once(R::CAPACITY, &save, &tables.pages, &tables.entries);
     if let Some(refusal) = refusal {
         refused::<R>(
@@ -77,7 +96,8 @@ fn one<R: Rust>(comparison: &mut Comparison, form: Form, random: &mut Random) ->
     let rust = R::open(&state)?;
     let finished = R::finish(rust.start(save.count as usize), &freed)?;
     let after = after(&rust, finished);
-    comparison.finishes::<R>(form, &save, &state.list, &freed, &after, random);
+    let finish = Finish::new(form, &save, &state.list, &freed, &after);
+    comparison.finishes::<R>(&finish, random);
     Ok(())
 }
 
@@ -91,7 +111,7 @@ fn refused<R: Rust>(
     freed: &[u32],
     refusal: &Reply,
 ) {
-    let places = tables.entries.len() + freed.len();
+    let places = tables.entries.len() + freed.len() + tables.map.len();
     comparison
         .recorder
         .keep(4, R::PAGE_SIZE.to_string(), places, || {
@@ -102,11 +122,13 @@ fn refused<R: Rust>(
                 .array(freed)
                 .length(&tables.buffer)
                 .length(&tables.numbers)
+                .length(&tables.map)
                 .reply(refusal)
                 .places(&tables.pages, pages)
                 .places(&tables.entries, entries)
                 .places(&tables.buffer, 0)
                 .places(&tables.numbers, 0)
+                .map(tables.map.len(), 0)
         });
     let mut got = tables.clone();
     let reply = comparison.library.finish(form, save, freed, &mut got);
@@ -135,32 +157,55 @@ fn standing<R: Rust>(state: &State, save: &Save) -> State {
     }
 }
 
-/// A list of any accepted shape, with any numbers at all.
-fn any_list(full: usize, random: &mut Random) -> List {
+/// How many entries are on each page of a list of any accepted shape, from the bottom page up.
+fn any_counts(full: usize, random: &mut Random) -> Vec<usize> {
     let pages = random.below(5) as usize;
-    let fragmented = usize::from(pages >= 2 && random.below(4) == 0);
+    let fragmented = pages >= 2 && random.below(4) == 0;
     let entries = match pages {
         0 => 0,
-        _ if fragmented == 1 => full * (pages - 1),
+        _ if fragmented => full * (pages - 1),
         _ => full * (pages - 1) + 1 + random.below(full as u64) as usize,
     };
-    let number = |random: &mut Random| match random.below(8) {
-        0 => 0,
+    model::counts(full, pages, entries)
+}
+
+/// A list with so many entries on each page, of the next numbers.
+fn list_of(counts: &[usize], numbers: &mut Numbers) -> List {
+    let mut page = |count: &usize| {
+        let number = numbers.next()?;
+        Some((number, numbers.take(*count).collect()))
+    };
+    counts.iter().map_while(&mut page).collect()
+}
+
+/// Puts another number in one place of the list, or of the freed numbers: one that is there already, one
+/// near the limit, 0 or any.
+fn twist(list: &mut List, freed: &mut [u32], limit: u64, random: &mut Random) {
+    let on_list = list
+        .iter_mut()
+        .flat_map(|(page, entries)| [page].into_iter().chain(entries));
+    let mut places: Vec<&mut u32> = on_list.chain(freed).collect();
+    let Some(other) = places.len().checked_sub(1) else {
+        return;
+    };
+    let mut place = || random.below(other as u64 + 1) as usize;
+    let (from, to) = (place(), place());
+    let near = (limit - 1)
+        .saturating_add(random.below(4))
+        .min(u32::MAX.into()) as u32;
+    *places[to] = match random.below(8) {
+        0..=3 => *places[from],
+        4 | 5 => near,
+        6 => 0,
         _ => random.of_any_length(32) as u32,
     };
-    model::counts(full, pages, entries)
-        .into_iter()
-        .map(|count| {
-            let page = number(random);
-            (page, (0..count).map(|_| number(random)).collect())
-        })
-        .collect()
 }
 
 fn any_bump(random: &mut Random) -> u32 {
-    match random.below(4) {
+    match random.below(8) {
         0 => LAST_BUMP as u32 - random.below(12) as u32,
         1 => 1 + random.below(LAST_BUMP) as u32,
+        2 => 1 + random.below(20) as u32,
         _ => 1 + random.below(20_000) as u32,
     }
 }
@@ -181,7 +226,8 @@ fn any_count(save: &Save, random: &mut Random) -> u64 {
         1 => random.below(entries + 1),
         2 => entries,
         3 => entries + random.below(20_000),
-        4 | 5 => {
+        4 => entries + random.below(20),
+        5 => {
             let limit = entries + LAST_BUMP - u64::from(save.bump);
             (limit + random.below(5)).saturating_sub(random.below(5))
         }
@@ -213,16 +259,11 @@ fn unsettle(full: usize, save: &mut Save, room: &mut Room, random: &mut Random) 
     }
 }
 
-/// Numbers below the limit, in any number.
-fn any_freed(full: usize, save: &Save, random: &mut Random) -> Vec<u32> {
-    let limit = u64::from(save.bump).saturating_add(save.count.saturating_sub(save.entries));
-    let limit = limit.clamp(2, LAST_BUMP);
-    let count = match random.below(4) {
+/// How many numbers are freed.
+fn any_freed(full: usize, random: &mut Random) -> usize {
+    match random.below(4) {
         0 => 0,
-        1 => 1 + random.below(3),
-        _ => random.below(4 * full as u64),
-    };
-    (0..count)
-        .map(|_| 1 + random.below(limit - 1) as u32)
-        .collect()
+        1 => 1 + random.below(3) as usize,
+        _ => random.below(4 * full as u64) as usize,
+    }
 }

@@ -74,12 +74,14 @@ impl saves::Library for Changed {
         head: u32,
         pages: &mut [u32],
         entries: &mut [u32],
+        map: &mut [u8],
     ) -> Reply {
-        let reply = form.read_list(store, head, pages, entries);
-        let places = !pages.is_empty() && !entries.is_empty();
+        let reply = form.read_list(store, head, pages, entries, map);
+        let places = !pages.is_empty() && !entries.is_empty() && !map.is_empty();
         self.pass(READ_BACK, reply, places, |part| match part {
             0 | 1 => change_end(pages, part),
-            _ => change_end(entries, part),
+            2 | 3 => change_end(entries, part),
+            _ => change_end(map, part),
         })
     }
 
@@ -95,13 +97,15 @@ impl saves::Library for Changed {
             lent.entries.len(),
             lent.buffer.len(),
             lent.numbers.len(),
+            lent.map.len(),
         ];
         let places = !lengths.contains(&0);
         self.pass(FINISH, reply, places, |part| match part {
             0 | 1 => change_end(&mut lent.pages, part),
             2 | 3 => change_end(&mut lent.entries, part),
             4 | 5 => change_end(&mut lent.buffer, part),
-            _ => change_end(&mut lent.numbers, part),
+            6 | 7 => change_end(&mut lent.numbers, part),
+            _ => change_end(&mut lent.map, part),
         })
     }
 }

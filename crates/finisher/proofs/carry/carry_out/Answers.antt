@@ -3,10 +3,16 @@ use Rattle.finisher.proofs.carry.carry_out.Goals as goal
 use native.Mathlib.Omega.{arith}
 use mathlib.Core.Path.{sym}
 use lib.Seq.{length-take-le}
-use Rattle.finisher.proofs.CarryLaws.{tables_room, bytes_enough, numbers_enough, goes_doable, goes_same, numbers_filled, numbers_carried, list_is, shape_is, encodable, buffer-carried}
+use Rattle.finisher.proofs.CarryLaws.{tables_room, bytes_enough, numbers_enough, goes_doable, same-tables, same-buffer, same-numbers, numbers_filled, numbers_carried, list_is, shape_is, encodable, buffer-carried}
 
-pub returns-then-work-eq0 : goal.returns-then-work-eq0
-returns-then-work-eq0 c = goes_same c.requires c.if-work-eq0.true
+pub returns-then-work-eq0-clause-tables : goal.returns-then-work-eq0-clause-tables
+returns-then-work-eq0-clause-tables c = same-tables c.requires c.if-work-eq0.true
+
+pub returns-then-work-eq0-clause-buffer : goal.returns-then-work-eq0-clause-buffer
+returns-then-work-eq0-clause-buffer c = same-buffer c.requires c.if-work-eq0.true
+
+pub returns-then-work-eq0-clause-numbers : goal.returns-then-work-eq0-clause-numbers
+returns-then-work-eq0-clause-numbers c = same-numbers c.requires c.if-work-eq0.true
 
 pub fill_numbers-requires : goal.fill_numbers-requires
 fill_numbers-requires c = record { doable = goes_doable c.requires c.if-work-eq0.false; numbers_fit = numbers_enough c.requires }
@@ -39,9 +45,13 @@ encode_pages-requires c =
     let h = goes_doable c.requires c.if-work-eq0.false in
     rw c.new-list.ensures.list (encodable h c.saturating_sub-first.ensures (list_is h c.write_tables.ensures) (bytes_enough c.requires))
 
-pub returns : goal.returns
-returns c =
+pub returns-clause-tables : goal.returns-clause-tables
+returns-clause-tables c = c.write_tables.ensures
+
+pub returns-clause-buffer : goal.returns-clause-buffer
+returns-clause-buffer c =
     let h = goes_doable c.requires c.if-work-eq0.false in
-    let buffer = buffer-carried h c.saturating_sub-first.ensures (list_is h c.write_tables.ensures) c.args.buffer.now (rw c.new-list.ensures.list at c.encode_pages.ensures) in
-    let numbers = numbers_carried h c.args.numbers.now c.fill_numbers.ensures in
-    λ i. record { tables = c.write_tables.ensures i; room = record { buffer = buffer i; numbers = numbers i } }
+    buffer-carried h c.saturating_sub-first.ensures (list_is h c.write_tables.ensures) c.args.buffer.now (rw c.new-list.ensures.list at c.encode_pages.ensures)
+
+pub returns-clause-numbers : goal.returns-clause-numbers
+returns-clause-numbers c = numbers_carried (goes_doable c.requires c.if-work-eq0.false) c.args.numbers.now c.fill_numbers.ensures

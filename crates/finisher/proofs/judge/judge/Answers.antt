@@ -1,152 +1,43 @@
--- `judge`: its tests are those of `finish`, in order. Each has one law here, which says its value in the definition's
--- terms; a return rewrites with the tests that led to it.
-use Rattle.std.proofs.Common.{Option, Some, None, eqb, ◌≡◌, ◌&&◌, ◌*◌, ◌+◌, ◌-◌, ◌<◌, ◌≤◌, leb, ℕ, length, List, Bool, true, false, le-leb, eq-eqb, ne_eqb}
-use Rattle.page.specs.PageSize.{IsPageSize}
-use Rattle.finisher.specs.Steps.{popped, work_of, Begun, bad_place}
+-- `judge` meets its contract: its tests are those of `fitted`, in order.
 use Rattle.finisher.proofs.judge.judge.Goals as goal
+use mathlib.Core.Path.{sym, ◌∙◌}
 use native.Mathlib.Omega.{arith}
-use mathlib.Core.Path.{ap, sym, ◌∙◌}
-use borrow.Author.Tests.{lt-leb}
-use Rattle.refusal.specs.Outcome.{answer}
-use Rattle.page.specs.Growth.{max_bump}
+use Rattle.std.proofs.lemmas.Result.{err_from_is_err_and}
 use Rattle.page.proofs.PageSizeLaws.{page_least}
-use Rattle.allocator.specs.OpenSave.{Save, bumped, state_fits}
-use Rattle.allocator.specs.Answers.{SizedSave, save_of}
-use Rattle.allocator.proofs.SaveLaws.{stands}
-use Rattle.finisher.specs.Finish.{first_bad, finished, finish}
-use Rattle.finisher.specs.declared.judge.Work.{Work}
-use Rattle.finisher.proofs.FinishLaws.{bump_raised}
-use Rattle.finisher.proofs.JudgeLaws.{work_bump}
-use Rattle.finisher.proofs.TablesLaws.{bad_some, bad_none}
+use Rattle.finisher.proofs.JudgeLaws.{admit_refused, admit_answered, judged-repeat, judged-tables, judged-buffer, judged-all}
 
--- The code's tests are those of `finish`, in order: each has a law here, which says its value in the definition's terms.
+pub returns-in_err-work-clause-judged : goal.returns-in_err-work-clause-judged
+returns-in_err-work-clause-judged c =
+    let p = err_from_is_err_and c.from_residual.result c.from_residual.ensures.1 in
+    rw (p.1, p.2) (admit_refused _ _ _ _ _ c.in_err-work.ensures)
 
--- the bump, of the numbers handed out and of the plan
-module _ (s : ℕ) (v : Save) (size : IsPageSize s) (state : state_fits s v ≡ true) where
-  begun : {k : ℕ} → k ≡ popped v → v.handed - k ≤ max_bump - v.bump → Begun s v k (v.bump + (v.handed - k))
-  begun pops room =
-      record {
-        size = size;
-        state = state;
-        pops_are = pops;
-        bump_is = omega (arith, pops);
-        limit = omega (arith, room, (stands s v state).most);
-      }
+pub numbers_differ-requires : goal.numbers_differ-requires
+numbers_differ-requires c = admit_answered _ _ _ _ c.in_ok-work.ensures
 
-  module _ (freed : List ℕ) where
-    limit-handed : {k : ℕ} → k ≡ popped v → max_bump - v.bump < v.handed - k → leb (finished s v freed).bump max_bump ≡ false
-    limit-handed pops past =
-        let st = stands s v state in
-        lt-leb (finished s v freed).bump max_bump (omega (arith, bump_raised freed size st, pops, past, st.most))
-
-    module _ {w : Work} (is : w ≡ work_of s v freed) where
-      bump_is : w.plan.bump ≡ (finished s v freed).bump
-      bump_is = ap (λ (x : Work). x.plan.bump) is ∙ work_bump s v freed size state
-
-      limit_past : max_bump < w.plan.bump → leb (finished s v freed).bump max_bump ≡ false
-      limit_past h = lt-leb (finished s v freed).bump max_bump (omega (arith, bump_is, h))
-
-      limit_is : w.plan.bump ≤ max_bump → leb (finished s v freed).bump max_bump ≡ true
-      limit_is h = le-leb (finished s v freed).bump max_bump (omega (arith, bump_is, h))
-
--- the freed numbers
-module _ (v : Save) (freed : List ℕ) {k : ℕ} (pops : k ≡ popped v) {o : Option ℕ} (found : o ≡ bad_place (v.bump + (v.handed - k)) freed) where
-  bumped_is : v.bump + (v.handed - k) ≡ bumped v
-  bumped_is = omega (arith, pops)
-
-  bad_is : {i : ℕ} → o ≡ Some i → (first_bad (bumped v) freed ≡ i) × (eqb i (length freed) ≡ false)
-  bad_is {i} e =
-      let b = bad_some (bumped v) freed (rw bumped_is at found) e in
-      (b.0, ne_eqb i (length freed) (omega (arith, b.1)))
-
-  all_good : o ≡ None → eqb (first_bad (bumped v) freed) (length freed) ≡ true
-  all_good e = eq-eqb _ _ (bad_none (bumped v) freed (rw bumped_is at found) e)
-
-module _ (s : ℕ) (v : Save) (freed : List ℕ) {w : Work} (is : w ≡ work_of s v freed) where
-  -- the tables
-  tables_are : (pages entries : ℕ) {fits q : Bool} → fits ≡ leb w.pages pages && leb w.entries entries → fits ≡ q
-      → leb (length (finished s v freed).list.pages) pages && leb (length (finished s v freed).list.entries) entries ≡ q
-  tables_are pages entries tested e = ap (λ (x : Work). leb x.pages pages && leb x.entries entries) (sym is) ∙ sym tested ∙ e
-
-  -- the room for the pages to write
-  pages_are : (bytes places : ℕ) {fits q : Bool} → fits ≡ leb (s * w.written) bytes && leb w.written places → fits ≡ q
-      → leb (s * length (finished s v freed).written) bytes && leb (length (finished s v freed).written) places ≡ q
-  pages_are bytes places tested e = ap (λ (x : Work). leb (s * x.written) bytes && leb x.written places) (sym is) ∙ sym tested ∙ e
-
--- the state of the save, where the test said that it stands, or not
-state_is : {v w : SizedSave} {fits q : Bool} → v ≡ w → fits ≡ state_fits w.page_size w.save → fits ≡ q → state_fits v.page_size v.save ≡ q
-state_is e tested is = rw (← e) at (sym tested ∙ is)
-
-pub returns-then-not-state_fits-clause-judged : goal.returns-then-not-state_fits-clause-judged
-unfolding finish
-returns-then-not-state_fits-clause-judged c = rw (sym c.state_fits.ensures ∙ c.if-not-state_fits.true)
-
-pub overflow_sub-start : goal.overflow_sub-start
-overflow_sub-start c = (stands _ _ (state_is c.lent.view_is c.state_fits.ensures c.if-not-state_fits.false)).most
-
-pub returns-then-past-start-clause-judged : goal.returns-then-past-start-clause-judged
-unfolding finish
-returns-then-past-start-clause-judged c =
-    let size = rw c.bytes-size.ensures.bytes at c.bytes-size.ensures.size in
-    let state = state_is c.lent.view_is c.state_fits.ensures c.if-not-state_fits.false in
-    rw (← c.lent.view_is, state, limit-handed _ _ size state c.args.freed.now c.min-popped.ensures c.if-past-start.true)
-
-pub measure-work-requires : goal.measure-work-requires
-measure-work-requires c =
-    let size = rw c.bytes-size.ensures.bytes at c.bytes-size.ensures.size in
-    let state = state_is c.lent.view_is c.state_fits.ensures c.if-not-state_fits.false in
-    rw (← c.lent.view_is) (begun _ _ size state c.min-popped.ensures c.if-past-start.false)
-
-pub returns-then-work-clause-judged : goal.returns-then-work-clause-judged
-unfolding finish
-returns-then-work-clause-judged c =
-    let size = rw c.bytes-size.ensures.bytes at c.bytes-size.ensures.size in
-    let state = state_is c.lent.view_is c.state_fits.ensures c.if-not-state_fits.false in
-    let work = rw (← c.lent.view_is) at c.measure-work.ensures in
-    rw (← c.lent.view_is, state, limit_past _ _ size state c.args.freed.now work c.if-work.true)
-
-pub returns-in-Some-clause-judged : goal.returns-in-Some-clause-judged
-unfolding finish
-returns-in-Some-clause-judged c =
-    let v = save_of c.lent.inside.save.start c.lent.inside.save.«open» c.lent.inside.pages.now c.lent.inside.entries.now in
-    let size = rw c.bytes-size.ensures.bytes at c.bytes-size.ensures.size in
-    let state = state_is c.lent.view_is c.state_fits.ensures c.if-not-state_fits.false in
-    let work = rw (← c.lent.view_is) at c.measure-work.ensures in
-    let bad = bad_is v c.args.freed.now c.min-popped.ensures c.first_bad.ensures c.in-Some.is in
-    rw (← c.lent.view_is, state, limit_is _ _ size state c.args.freed.now work c.if-work.false, bad.0, bad.1)
+pub returns-then-not-numbers_differ-clause-judged : goal.returns-then-not-numbers_differ-clause-judged
+returns-then-not-numbers_differ-clause-judged c =
+    let a = admit_answered _ _ _ _ c.in_ok-work.ensures in
+    rw c.numbers_differ.ensures.map (judged-repeat c.args.room c.args.map.now a (sym c.numbers_differ.ensures.differ ∙ c.if-not-numbers_differ.true))
 
 pub returns-then-not-tables_fit-clause-judged : goal.returns-then-not-tables_fit-clause-judged
-unfolding finish
 returns-then-not-tables_fit-clause-judged c =
-    let v = save_of c.lent.inside.save.start c.lent.inside.save.«open» c.lent.inside.pages.now c.lent.inside.entries.now in
-    let size = rw c.bytes-size.ensures.bytes at c.bytes-size.ensures.size in
-    let state = state_is c.lent.view_is c.state_fits.ensures c.if-not-state_fits.false in
-    let work = rw (← c.lent.view_is) at c.measure-work.ensures in
-    let tables = tables_are c.lent.inside.page_size _ c.args.freed.now work _ _ c.tables_fit.ensures c.if-not-tables_fit.true in
-    rw (← c.lent.view_is, state, limit_is _ _ size state c.args.freed.now work c.if-work.false, all_good v c.args.freed.now c.min-popped.ensures c.first_bad.ensures c.in_default.is, tables)
+    let a = rw (← c.lent.view_is) at (admit_answered _ _ _ _ c.in_ok-work.ensures) in
+    let differ = rw (← c.lent.view_is) at (sym c.numbers_differ.ensures.differ ∙ c.if-not-numbers_differ.false) in
+    rw (c.numbers_differ.ensures.map, ← c.lent.view_is) (judged-tables c.args.room c.args.map.now a differ (sym c.tables_fit.ensures ∙ c.if-not-tables_fit.true))
 
 pub pages_fit-requires : goal.pages_fit-requires
 pages_fit-requires c = omega (arith, page_least c.bytes-size.ensures.size)
 
 pub returns-then-not-pages_fit-clause-judged : goal.returns-then-not-pages_fit-clause-judged
-unfolding finish
 returns-then-not-pages_fit-clause-judged c =
-    let v = save_of c.lent.inside.save.start c.lent.inside.save.«open» c.lent.inside.pages.now c.lent.inside.entries.now in
-    let size = rw c.bytes-size.ensures.bytes at c.bytes-size.ensures.size in
-    let state = state_is c.lent.view_is c.state_fits.ensures c.if-not-state_fits.false in
-    let work = rw (← c.lent.view_is) at c.measure-work.ensures in
-    let tables = tables_are c.lent.inside.page_size _ c.args.freed.now work _ _ c.tables_fit.ensures c.if-not-tables_fit.false in
-    let room = pages_are c.lent.inside.page_size _ c.args.freed.now work _ _ (rw c.bytes-size.ensures.bytes at c.pages_fit.ensures) c.if-not-pages_fit.true in
-    rw (← c.lent.view_is, state, limit_is _ _ size state c.args.freed.now work c.if-work.false, all_good v c.args.freed.now c.min-popped.ensures c.first_bad.ensures c.in_default.is, tables, room)
+    let a = rw (← c.lent.view_is) at (admit_answered _ _ _ _ c.in_ok-work.ensures) in
+    let differ = rw (← c.lent.view_is) at (sym c.numbers_differ.ensures.differ ∙ c.if-not-numbers_differ.false) in
+    let room = rw c.bytes-size.ensures.bytes at c.pages_fit.ensures in
+    rw (c.numbers_differ.ensures.map, ← c.lent.view_is) (judged-buffer c.args.room c.args.map.now a differ (sym c.tables_fit.ensures ∙ c.if-not-tables_fit.false) (sym room ∙ c.if-not-pages_fit.true))
 
 pub returns-clause-judged : goal.returns-clause-judged
-unfolding finish
 returns-clause-judged c =
-    let v = save_of c.lent.inside.save.start c.lent.inside.save.«open» c.lent.inside.pages.now c.lent.inside.entries.now in
-    let size = rw c.bytes-size.ensures.bytes at c.bytes-size.ensures.size in
-    let state = state_is c.lent.view_is c.state_fits.ensures c.if-not-state_fits.false in
-    let work = rw (← c.lent.view_is) at c.measure-work.ensures in
-    let tables = tables_are c.lent.inside.page_size _ c.args.freed.now work _ _ c.tables_fit.ensures c.if-not-tables_fit.false in
-    let room = pages_are c.lent.inside.page_size _ c.args.freed.now work _ _ (rw c.bytes-size.ensures.bytes at c.pages_fit.ensures) c.if-not-pages_fit.false in
-    rw (← c.lent.view_is, state, limit_is _ _ size state c.args.freed.now work c.if-work.false, all_good v c.args.freed.now c.min-popped.ensures c.first_bad.ensures c.in_default.is, tables, room)
-    (ap answer work)
+    let a = rw (← c.lent.view_is) at (admit_answered _ _ _ _ c.in_ok-work.ensures) in
+    let differ = rw (← c.lent.view_is) at (sym c.numbers_differ.ensures.differ ∙ c.if-not-numbers_differ.false) in
+    let room = rw c.bytes-size.ensures.bytes at c.pages_fit.ensures in
+    rw (c.numbers_differ.ensures.map, ← c.lent.view_is) (judged-all c.args.room c.args.map.now a differ (sym c.tables_fit.ensures ∙ c.if-not-tables_fit.false) (sym room ∙ c.if-not-pages_fit.false))
