@@ -21,7 +21,7 @@ pub fn mark_new(limit: usize, n: u32, map: &mut [u8]) -> bool
 }
 
 // Marks numbers up to the first that is marked already or is not below the limit. Returns whether there is none. It is kept apart from its callers,
-// so that its loop has the registers that it needs: inlined in a finish it takes a quarter longer.
+// so that its loop has the registers that it needs: inlined in a finish it is slower (docs/PERFORMANCE.md).
 #[inline(never)]
 fn mark_all(limit: usize, numbers: &[u32], map: &mut [u8]) -> bool
     requires { has_bits limit (length map.old) ≡ true }
