@@ -7,16 +7,16 @@ use mathlib.Core.Bool.{true, false, ◌||◌}
 use native.Mathlib.Nat.{lt-div-mul-add, div-mul-le_self, mul-le-mul_right, mul-add, mul-suc, mul-zero}
 use native.Mathlib.Omega.{arith}
 use borrow.Author.Tests.{leb-true, leb-false}
-use lib.Dec.{leb}
+use lib.Dec.{leb, eqb}
 use Rattle.laws.proofs.Tests.{cond_cases, or-true, or-false}
-use Rattle.page.specs.PageSize.{IsPageSize}
+use Rattle.page.specs.PageSize.{IsPageSize, panel_page_size}
 use Rattle.page.proofs.PageSizeLaws.{page_least}
 use Rattle.overflow.specs.Totals.{max_size, cell_numbers, body, raw_pages, old_total}
 
 -- no page size has a larger limit
 pub max_size_lem : (s : ℕ) → max_size s ≤ 2 ^ 29
 unfolding max_size
-max_size_lem s = omega arith
+max_size_lem s = cond_cases (λ (n : ℕ). n ≤ 2 ^ 29) (eqb s panel_page_size) (2 ^ 20) (2 ^ 29) (λ e. omega arith) (λ e. omega arith)
 
 -- a factor of a positive product
 positive_factor : (a n : ℕ) → 0 < a * n → 0 < n

@@ -1,15 +1,16 @@
 -- How many pages a value takes, at pages of s bytes: the new total, by which values are written, and the old one, which stored values may have.
-use Rattle.std.specs.Prelude.{ℕ, zero, suc, ◌+◌, ◌*◌, ◌-◌, ◌/◌, ◌^◌, ◌≡◌, ◌⊎◌, min, Bool, ◌&&◌, ◌||◌, cond, [], leb, ltb, Result}
+use Rattle.std.specs.Prelude.{ℕ, zero, suc, ◌+◌, ◌*◌, ◌-◌, ◌/◌, ◌^◌, ◌≡◌, ◌⊎◌, min, Bool, ◌&&◌, ◌||◌, cond, [], leb, ltb, eqb, Result}
 use Rattle.refusal.specs.Outcome.{Outcome, answer, check}
 use Rattle.refusal.specs.Refusals.{outcome}
 use Rattle.refusal.specs.declared.Refusal.{Refusal}
+use Rattle.page.specs.PageSize.{panel_page_size}
 use Rattle.overflow.specs.declared.total.PageTotal.{PageTotal}
 use Rattle.overflow.specs.declared.total.TotalRule.{TotalRule}
 use Rattle.overflow.specs.declared.total.TotalRule.TheVariants.{New, Old}
 
--- the largest value: the same at all page sizes
+-- the largest value: less at the panel's page size, and the same at all others
 unfoldable pub max_size : ℕ → ℕ
-max_size s = 2 ^ 29
+max_size s = cond (eqb s panel_page_size) (2 ^ 20) (2 ^ 29)
 
 -- a cell holds the numbers of so many pages
 abbrev pub cell_numbers : ℕ

@@ -6,8 +6,10 @@ ghost use Rattle.overflow.specs.Steps.{IsTotals, Room, total_of_rule};
 use page::size::PageSize;
 use refusal::Refusal;
 
-// The largest value.
-pub const MAX_OVERFLOW_VALUE_SIZE: usize = 0x2000_0000;
+// The largest value, at the panel's page size and at all others.
+const MAX_PANEL_VALUE_SIZE: usize = 0x10_0000;
+
+const MAX_OVERFLOW_VALUE_SIZE: usize = 0x2000_0000;
 
 // A cell holds the numbers of so many pages.
 pub const MAX_OVERFLOW_CELL_NODE_POINTERS: usize = 15;
@@ -69,12 +71,16 @@ impl TotalRule {
     }
 }
 
-// The largest value at this page size: the same at all of them.
+// The largest value at this page size.
 #[tactic(auto, unfolding(crate::specs::Totals::max_size))]
 pub(crate) fn max_overflow_value_size(page_size: PageSize) -> usize
     ensures { result ≡ max_size page_size }
 {
-    MAX_OVERFLOW_VALUE_SIZE
+    if page_size.bytes() == PageSize::panel().bytes() {
+        MAX_PANEL_VALUE_SIZE
+    } else {
+        MAX_OVERFLOW_VALUE_SIZE
+    }
 }
 
 // The two totals: how many pages a value takes, with the numbers that the cell has no place for. They are rounded in different ways, where the

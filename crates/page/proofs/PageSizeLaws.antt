@@ -1,8 +1,8 @@
--- What every page size has, and that document 01's is one.
+-- What every page size has, and that document 01's and the panel's are two.
 use Prim.Native.Nat.{ℕ, ◌+◌, ◌*◌, ◌-◌, ◌/◌, ◌≤◌}
 use mathlib.Core.Path.{◌≡◌, refl}
 use native.Mathlib.Omega.{arith}
-use Rattle.page.specs.PageSize.{capacity, IsPageSize, standard_page_size, page_size_of}
+use Rattle.page.specs.PageSize.{capacity, IsPageSize, standard_page_size, panel_page_size, page_size_of}
 
 -- a page has 16 bytes or more
 pub page_least : {s : ℕ} → IsPageSize s → 16 ≤ s
@@ -22,6 +22,11 @@ page_words size = omega (arith, size.multiple)
 pub page-size : IsPageSize standard_page_size
 unfolding capacity
 page-size = record { multiple = refl; two_entries = omega arith; limit = omega arith }
+
+-- and the panel's
+pub panel-size : IsPageSize panel_page_size
+unfolding capacity
+panel-size = record { multiple = refl; two_entries = omega arith; limit = omega arith }
 
 -- each value of the code's type is one, and each page size is a value of it
 pub page-bytes : (words : ℕ) → IsPageSize (page_size_of words)

@@ -19,6 +19,10 @@ pub record IsPageSize (s : ℕ) : Type 0 where
 abbrev pub standard_page_size : ℕ
 standard_page_size = 4096
 
+-- the small panel's, of document 02
+abbrev pub panel_page_size : ℕ
+panel_page_size = 1024
+
 -- a page of 16 bytes and so many words of four bytes more, up to the limit. So each is a page size, and every page size is one
 unfoldable pub page_size_of : ℕ → ℕ
 page_size_of words = 16 + 4 * min words 16380

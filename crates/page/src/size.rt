@@ -1,6 +1,6 @@
 // How large a page is.
 ghost use Rattle.std.specs.Prelude.{◌≡◌, ℕ};
-ghost use Rattle.page.specs.PageSize.{IsPageSize, page_size_of, standard_page_size};
+ghost use Rattle.page.specs.PageSize.{IsPageSize, page_size_of, standard_page_size, panel_page_size};
 
 use std::marker::Model;
 
@@ -27,6 +27,14 @@ impl PageSize {
         ensures { result ≡ standard_page_size }
     {
         PageSize { bytes: 4096 }
+    }
+
+    // The small panel's: 1,024 bytes.
+    #[tactic(auto, unfolding(crate::specs::PageSize::capacity))]
+    pub fn panel() -> PageSize
+        ensures { result ≡ panel_page_size }
+    {
+        PageSize { bytes: 1024 }
     }
 
     // A page of 16 bytes and so many words of four bytes more, and of 65,536 bytes from 16,380 words on.
