@@ -16,7 +16,7 @@ use Rattle.laws.proofs.SetsLaws.{sets-append}
 use Rattle.free_list.specs.Shape.{FreeList}
 use Rattle.preallocate.specs.declared.turns.Plan.{Plan as Counts}
 use Rattle.preallocate.specs.Counts.{narrow}
-use Rattle.preallocate.specs.Steps.{room_of, whole_of, last_of, top_swapped, bump_taken, entry_taken, last_taken, taken, named, stepped, step_names, planned, new_pages, work, Packed, Small, Short, Due, Took, Planned}
+use Rattle.preallocate.specs.Steps.{room_of, whole_of, last_of, top_swapped, bump_taken, entry_taken, last_taken, taken, named, stepped, step_names, planned, new_pages, work, Packed, Small, Short, Due, Took, Planned, Along, Turned}
 use Rattle.laws.proofs.ProductLaws.{times_less, times_positive}
 
 -- ---- the cases of a turn
@@ -221,34 +221,66 @@ module _ {c : ℕ} {l : FreeList} {p : Counts} (packed : Packed c l p) (s : Shor
         ),
       )
 
--- ---- a part of a run that takes pages only, from the counts q₀ and their buffer to the counts q and their own
-
-pub record Along (c : ℕ) (l : FreeList) (q₀ : Counts) (out₀ : List ℕ) (q : Counts) (out : List ℕ) : Type 0 where
-  pub packed : Packed c l q
-  pub small : Small c q
-  pub less : work c q ≤ work c q₀
-  pub same : length out ≡ length out₀
-  pub planned : (r : Counts) (after : List ℕ) → Planned c l q out r after → Planned c l q₀ out₀ r after
+-- ---- a part of a run, from the counts p and their buffer to the counts q and their own
 
 pub along_start : {c : ℕ} {l : FreeList} {q : Counts} {out : List ℕ} → Packed c l q → Small c q → Along c l q out q out
 along_start packed small = record { packed = packed; small = small; less = omega arith; same = refl; planned = λ r after h. h }
 
-pub along_more : {c : ℕ} {l : FreeList} {q₀ q r : Counts} {out₀ out mid : List ℕ} → Along c l q₀ out₀ q out → Short c q → whole_of c q ≡ false
-    → Took c l q out r mid → length mid ≡ length out → (work c r < work c q) × Along c l q₀ out₀ r mid
-along_more {c} {l} {q₀} {q} {r} {out₀} {out} {mid} a s w t n =
-    let e = t.counted in
-    let falls : work c r < work c q = rw e (falls_taken a.packed s) in (
-      falls,
+module _ {c : ℕ} {l : FreeList} {p q r : Counts} {before mid after : List ℕ} where
+  -- two parts, one after another
+  pub along_joined : Along c l p before q mid → Along c l q mid r after → Along c l p before r after
+  along_joined a b =
       record {
-        packed = rw e (packed_taken a.packed);
-        small = rw e (small-taken a.packed a.small s);
-        less = omega (arith, a.less);
-        same = n ∙ a.same;
-        planned = λ x after h. a.planned x after (then_taken a.packed s out mid r x after w t h);
-      },
-    )
+        packed = b.packed;
+        small = b.small;
+        less = omega (arith, a.less, b.less);
+        same = b.same ∙ a.same;
+        planned = λ last out h. a.planned last out (b.planned last out h);
+      }
 
--- the first page that is taken begins such a part
-pub along_first : {c : ℕ} {l : FreeList} {p r : Counts} {out mid : List ℕ} → Due c l p → whole_of c p ≡ false → Took c l p out r mid → length mid ≡ length out
-    → (work c r < work c p) × Along c l p out r mid
-along_first d w t n = along_more (along_start d.packed d.small) d.short w t n
+  -- of which the second takes a turn
+  pub turned_after : Along c l p before q mid → Turned c l q mid r after → Turned c l p before r after
+  turned_after a t = record { falls = omega (arith, a.less, t.falls); along = along_joined a t.along }
+
+  -- or the first
+  pub turned_before : Turned c l p before q mid → Along c l q mid r after → Turned c l p before r after
+  turned_before t a = record { falls = omega (arith, t.falls, a.less); along = along_joined t.along a }
+
+-- where the room is still short a turn is due
+pub along_due : {c : ℕ} {l : FreeList} {p q : Counts} {before mid : List ℕ} → Along c l p before q mid → Short c q → Due c l q
+along_due a s = record { packed = a.packed; small = a.small; short = s }
+
+-- a page that is taken is such a part
+pub turned_taken : {c : ℕ} {l : FreeList} {p r : Counts} {before after : List ℕ} → Due c l p → whole_of c p ≡ false → Took c l p before r after
+    → length after ≡ length before → Turned c l p before r after
+turned_taken {c} {l} {p} {r} {before} {after} d w t n =
+    let e = t.counted in
+    let falls : work c r < work c p = rw e (falls_taken d.packed d.short) in
+    record {
+      falls = falls;
+      along =
+          record {
+            packed = rw e (packed_taken d.packed);
+            small = rw e (small-taken d.packed d.small d.short);
+            less = omega arith;
+            same = n;
+            planned = λ last out h. then_taken d.packed d.short before after r last out w t h;
+          };
+    }
+
+-- so is a swap with what is done after it
+pub turned_swapped : {c : ℕ} {l : FreeList} {p r : Counts} {before after : List ℕ} → Due c l p → whole_of c p ≡ true
+    → Turned c l (top_swapped l p) before r after → Turned c l p before r after
+turned_swapped {c} {l} {p} {r} {before} {after} d w t =
+    let f = (swapped_ready d.packed d.short d.small w).0 in
+    record {
+      falls = omega (arith, f, t.falls);
+      along =
+          record {
+            packed = t.along.packed;
+            small = t.along.small;
+            less = omega (arith, f, t.falls);
+            same = t.along.same;
+            planned = λ last out h. then_swapped d.packed d.short before last out w (t.along.planned last out h);
+          };
+    }

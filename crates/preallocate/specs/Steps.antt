@@ -1,6 +1,6 @@
 -- The turns of a finish in numbers, as the code takes them: a whole page at the top is swapped, or a page is taken. Only this crate's
 -- private functions cite these; `PlanLaws` says that they are the turns of `Plan`.
-use Rattle.std.specs.Prelude.{ℕ, zero, suc, ◌+◌, ◌-◌, ◌*◌, ◌^◌, ◌≤◌, ◌<◌, List, [], ◌∷◌, ◌++◌, Bool, true, false, cond, ◌&&◌, length, get_or, leb, ltb, eqb}
+use Rattle.std.specs.Prelude.{ℕ, zero, suc, ◌+◌, ◌-◌, ◌*◌, ◌^◌, ◌≤◌, ◌<◌, ◌≡◌, List, [], ◌∷◌, ◌++◌, Bool, true, false, cond, ◌&&◌, length, get_or, leb, ltb, eqb}
 use Rattle.free_list.specs.Shape.{FreeList}
 use Rattle.page.specs.PageSize.{most_entries}
 use Rattle.preallocate.specs.Plan.{Plan}
@@ -131,3 +131,16 @@ Took c l p before r after = Told (taken c l p) p.fresh (named c l p) before r af
 -- all turns are taken, at any bound on the turns that is enough
 unfoldable pub Planned : ℕ → FreeList → Counts → List ℕ → Counts → List ℕ → Type 0
 Planned c l p before r after = (k : ℕ) → work c p ≤ k → Told (planned c l k p) p.fresh (new_pages c l k p) before r after
+
+-- some turns are taken, or none: what the turns from r on come to is what those from p on come to
+pub record Along (c : ℕ) (l : FreeList) (p : Counts) (before : List ℕ) (r : Counts) (after : List ℕ) : Type 0 where
+  pub packed : Packed c l r
+  pub small : Small c r
+  pub less : work c r ≤ work c p
+  pub same : length after ≡ length before
+  pub planned : (last : Counts) (out : List ℕ) → Planned c l r after last out → Planned c l p before last out
+
+-- one turn is taken at the least
+pub record Turned (c : ℕ) (l : FreeList) (p : Counts) (before : List ℕ) (r : Counts) (after : List ℕ) : Type 0 where
+  pub falls : work c r < work c p
+  pub along : Along c l p before r after

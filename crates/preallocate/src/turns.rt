@@ -15,7 +15,7 @@
 ghost use Rattle.std.specs.Prelude.{◌≡◌, true, false, [], ◌∷◌, ◌+◌, ◌*◌, ◌^◌, ◌≤◌, ◌<◌, ◌-◌, length, set, get_or};
 ghost use Rattle.page.specs.PageSize.{capacity};
 ghost use Rattle.preallocate.specs.Counts.{narrow, Told};
-ghost use Rattle.preallocate.specs.Steps.{room_of, whole_of, top_swapped, bump_taken, Packed, Small, Due, Took, Planned};
+ghost use Rattle.preallocate.specs.Steps.{room_of, whole_of, top_swapped, bump_taken, Packed, Small, Due, Took, Planned, Turned};
 
 use crate::list::LentList;
 
@@ -36,6 +36,9 @@ pub struct Plan {
     // The number of the top page kept. Where none is kept nothing reads it, and it is 0, which is no page.
     pub top: u32,
 }
+
+// How many calls of each nest before the plan is handed back as it stands: the stack that they take does not grow with the list.
+const NESTED: usize = 64;
 
 // Stores x at i, where that is within `out`.
 pub(crate) fn put(out: &mut [u32], i: usize, x: u32)
@@ -147,43 +150,48 @@ impl<'a> LentList<'a> {
 
     // Swaps the head, and then a page is taken. Document 01 asks that this and `take_page` call one another, so it is no plain loop.
     #[cycle(swap_head_take_page)]
-    fn swap_head(&self, out: &mut [u32], p: Plan) -> Plan
+    fn swap_head(&self, out: &mut [u32], p: Plan, nested: usize) -> Plan
         requires { Due (capacity self.now.page_size) self.now.list p × (whole_of (capacity self.now.page_size) p ≡ true) }
-        ensures { Planned (capacity self.now.page_size) self.now.list p out.old result out.new }
+        ensures { Turned (capacity self.now.page_size) self.now.list p out.old result out.new }
     {
         let swapped = self.top_swapped(p);
-        self.take_page(out, swapped)
+        self.take_page(out, swapped, nested)
     }
 
-    // Takes pages until the room is enough, or until a whole page comes to the top: then the head is swapped.
+    // Takes pages until the room is enough, or until a whole page comes to the top: then the head is swapped. As a call keeps its frame, the two
+    // nest only so many.
     #[cycle(swap_head_take_page)]
-    fn take_page(&self, out: &mut [u32], p: Plan) -> Plan
+    fn take_page(&self, out: &mut [u32], p: Plan, nested: usize) -> Plan
         requires { Due (capacity self.now.page_size) self.now.list p × (whole_of (capacity self.now.page_size) p ≡ false) }
-        ensures { Planned (capacity self.now.page_size) self.now.list p out.old result out.new }
+        ensures { Turned (capacity self.now.page_size) self.now.list p out.old result out.new }
     {
         let mut q = self.take_one(out, p);
         // How many turns it takes is known only when the room is enough, so there is no range to go over.
         while self.room(q) < q.pushed {
             if self.is_whole(q) {
-                return self.swap_head(out, q);
+                if nested == 0 {
+                    return q;
+                }
+                return self.swap_head(out, q, nested - 1);
             }
             q = self.take_one(out, q);
         }
         q
     }
 
-    // Goes on from where the plan stands until the room is enough.
+    // Goes on from where the plan stands until the room is enough: the two, as often as it takes.
     pub(crate) fn make_room(&self, out: &mut [u32], p: Plan) -> Plan
         requires { Packed (capacity self.now.page_size) self.now.list p × Small (capacity self.now.page_size) p }
         ensures { Planned (capacity self.now.page_size) self.now.list p out.old result out.new }
     {
-        if p.pushed <= self.room(p) {
-            return p;
+        let mut q = p;
+        while self.room(q) < q.pushed {
+            q = if self.is_whole(q) {
+                self.swap_head(out, q, NESTED)
+            } else {
+                self.take_page(out, q, NESTED)
+            };
         }
-        if self.is_whole(p) {
-            self.swap_head(out, p)
-        } else {
-            self.take_page(out, p)
-        }
+        q
     }
 }

@@ -1,8 +1,7 @@
 -- The measure of each call is the work that is left: the entries, and the room that is missing. What the loop has done so far is a part
 -- of the run.
 use Rattle.page.specs.PageSize.{capacity}
-use Rattle.preallocate.specs.Steps.{work}
-use Rattle.preallocate.proofs.StepsLaws.{Along}
+use Rattle.preallocate.specs.Steps.{work, Along}
 use Rattle.preallocate.proofs.list.LentList.+swap_head_take_page.Given as goal
 
 abbrev pub decreases-swap_head : goal.decreases-swap_head
