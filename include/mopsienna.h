@@ -8,7 +8,8 @@
  * `out` has eight places. A function fills the first ones as it says; the other places stay as they
  * were. A refusal that returns a value puts it into out[0]; where none is named, `out` is untouched.
  *
- * A page has 4,096 bytes and a number of 32 bits; number 0 is no page.
+ * A page has 4,096 bytes and a number of 32 bits; number 0 is no page. mopsienna_panel.h has the same
+ * functions for pages of 1,024 bytes.
  *
  * A slice is a pointer and a length. The pointer is not null, also where the length is 0, and is
  * aligned for its type; slices that are written overlap no other. Below, [0 .. n] are the places from
@@ -38,7 +39,7 @@ enum {
     MOPSIENNA_LIMIT = 7,       /* a number or a bump above its limit */
     MOPSIENNA_FREED = 8,       /* a freed number that is 0, or not below the bump as it has risen */
     MOPSIENNA_BUFFER = 9,      /* a page buffer or number list that is too short */
-    MOPSIENNA_SIZE = 10,       /* a size of 0, or above 2^29 */
+    MOPSIENNA_SIZE = 10,       /* a size of 0, or above the largest */
     MOPSIENNA_INDEX = 11,      /* not as many numbers as the total, or a page index not below it */
     MOPSIENNA_CELL = 12,       /* a cell under 44 bytes, or no multiple of 4 */
     MOPSIENNA_ROOM = 13,       /* a value or cell buffer or a number table that is too short */

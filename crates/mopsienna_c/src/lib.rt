@@ -1,4 +1,5 @@
-// The C interface as a static library: each operation of document 01, by the crate calls at document 01's page size.
+// The C interface as a static library: each operation of document 01, by the crate calls, at document 01's page size and, in `panel`, at the small
+// panel's.
 //
 // A function returns 0, or document 01's number of the refusal. Its values go to `out`, whose other places stay as they were.
 // include/mopsienna.h is the manual.
@@ -7,6 +8,7 @@
 
 pub mod lists;
 pub mod lookups;
+pub mod panel;
 pub mod saves;
 pub mod totals;
 pub mod values;
