@@ -5,6 +5,7 @@ NOMT_SRC ?= ../shared/docs/src/nomt/src
 export NOMT_SRC
 
 LIB := target/staticlib/libmopsienna.a
+SIZED := target/staticlib/libsized.a
 ORACLE := cargo run --quiet --release --manifest-path oracle/Cargo.toml
 CC11 := cc -std=c11 -Wall -Wextra -Werror -O1 -Iinclude
 
@@ -27,36 +28,45 @@ test: interface totals limits example sized
 lib:
 	@tools/prove lib mopsienna_c $(LIB)
 
-# The operations at any page size, for the comparison and the cuts.
+# The operations at any page size, for the comparison, the cuts and the limits.
 sized:
-	@tools/prove lib sized_c target/staticlib/libsized.a
+	@tools/prove lib sized_c $(SIZED)
 
-# The C interface as a C program uses it, through the header.
+# The C interface as a C program uses it, through the headers: at pages of 4,096 bytes, and of 1,024, as the next two.
 interface: lib
 	@$(CC11) -o target/interface tests/interface.c $(LIB)
+	@$(CC11) -DPANEL -o target/interface_panel tests/interface.c $(LIB)
 	@target/interface
+	@target/interface_panel
 
 # Values of the least size of which the two totals differ, chains of either total, and damaged ones.
 totals: lib
 	@$(CC11) -o target/totals tests/totals.c $(LIB)
+	@$(CC11) -DPANEL -o target/totals_panel tests/totals.c $(LIB)
 	@target/totals
+	@target/totals_panel
 
 # The limits: the largest bump, value and stores, under a small stack.
-limits: lib
-	@$(CC11) -pthread -o target/limits tests/limits.c $(LIB)
+limits: lib sized
+	@$(CC11) -pthread -o target/limits tests/limits.c $(LIB) $(SIZED)
+	@$(CC11) -DPANEL -pthread -o target/limits_panel tests/limits.c $(LIB) $(SIZED)
 	@target/limits
+	@target/limits_panel
 
 # The first program: saves on a store in memory, the last of which is cut.
 example: lib
 	@$(CC11) -o target/save examples/save.c $(LIB)
 	@target/save
 
-# The C programs under valgrind, which must have nothing to report. It maps no store of 1 TiB; here it has 16 GiB, and the largest bit map
-# is for so many pages.
+# The C programs under valgrind, which must have nothing to report. It maps no store of 1 TiB; here it has 2^22 pages, and the largest bit
+# map is for so many.
 memcheck: interface totals limits example
 	@valgrind --quiet --error-exitcode=1 target/interface
+	@valgrind --quiet --error-exitcode=1 target/interface_panel
 	@valgrind --quiet --error-exitcode=1 target/totals
+	@valgrind --quiet --error-exitcode=1 target/totals_panel
 	@valgrind --quiet --error-exitcode=1 target/limits 22
+	@valgrind --quiet --error-exitcode=1 target/limits_panel 22
 	@valgrind --quiet --error-exitcode=1 target/save
 
 # The library beside the Rust, at length.

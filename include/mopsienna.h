@@ -57,7 +57,7 @@ enum {
 /* The largest page number that a store grows for, and the largest bump. */
 #define MOPSIENNA_MAX_BUMP UINT32_C(4294950913)
 
-/* The largest value. */
+/* The largest value, at pages of 4,096 bytes. */
 #define MOPSIENNA_MAX_SIZE (UINT64_C(1) << 29)
 
 /*

@@ -29,7 +29,7 @@
 extern "C" {
 #endif
 
-/* The largest value. */
+/* The largest value, at pages of 1,024 bytes. */
 #define MOPSIENNA_PANEL_MAX_SIZE (UINT64_C(1) << 20)
 
 uint32_t mopsienna_panel_read_list(const uint8_t *store, size_t store_len, uint32_t head,

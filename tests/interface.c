@@ -1,6 +1,6 @@
-/* Calls each function of the C interface through its header: the documented samples, each refusal,
- * and the places of `out` that must stay as they were. */
-#include "mopsienna.h"
+/* Calls each function of the C interface through its header: the documented samples, the limits of
+ * its page size, each refusal, and the places of `out` that must stay as they were. */
+#include "page_size.h"
 
 #include <stdio.h>
 #include <string.h>
@@ -62,16 +62,15 @@ static void total(uint64_t size, uint32_t status, uint64_t pages, uint64_t cell,
     char call[64];
     fill(out);
     snprintf(call, sizeof call, "total %llu", (unsigned long long)size);
-    uint32_t got = mopsienna_total(size, out);
+    uint32_t got = CALL(total)(size, out);
     expect(call, got, out, status, status == 0 ? 4 : 0, values);
 }
 
 /* What a place of a table, a number list or a page buffer holds before a call. */
 static const uint32_t FILLER = UINT32_C(0xA5A5A5A5);
 
-/* FULL entries are on a full list page. MAP bytes are a bit map for more numbers than any list here
- * needs. */
-enum { PAGE = 4096, FULL = 1022, ROOM = FULL + 8, MAP = 160 };
+/* MAP bytes are a bit map for more numbers than any list here needs. */
+enum { ROOM = FULL + 8, MAP = 160 };
 
 /* What a call with this status leaves of a dirty map of which so many bits are in use. */
 static void map_is(const char *call, const uint8_t map[MAP], uint32_t status, uint64_t bits) {
@@ -98,7 +97,7 @@ static void holds(const char *table, const uint32_t *got, size_t count, const ui
 }
 
 /* A store that has room for a list of two pages, and the tables that lists are read into. */
-enum { PAGES = FULL + 4 };
+enum { PAGES = FULL + 104 };
 
 static uint8_t lists[PAGES * PAGE];
 static uint32_t listed_pages[ROOM], listed_entries[ROOM];
@@ -113,8 +112,8 @@ static void read_list(const char *call, size_t store_len, uint32_t head, size_t 
     memset(map, 0xA5, sizeof map);
     memset(listed_pages, 0xA5, sizeof listed_pages);
     memset(listed_entries, 0xA5, sizeof listed_entries);
-    uint32_t got = mopsienna_read_list(lists, store_len, head, listed_pages, places, listed_entries,
-                                       places, map, map_len, out);
+    uint32_t got = CALL(read_list)(lists, store_len, head, listed_pages, places, listed_entries,
+                                   places, map, map_len, out);
     expect(call, got, out, status, count, values);
     map_is(call, map, status, store_len / PAGE);
     if (status != 0) {
@@ -154,8 +153,8 @@ static void hand_out(const char *call, const struct save *v, uint32_t status, ui
     uint64_t out[8];
     uint64_t values[3] = {number, v->count + 1, length};
     fill(out);
-    uint32_t got = mopsienna_hand_out(v->bump, v->length, v->P, v->L, v->count, v->pages, ROOM,
-                                      v->entries, ROOM, out);
+    uint32_t got = CALL(hand_out)(v->bump, v->length, v->P, v->L, v->count, v->pages, ROOM,
+                                  v->entries, ROOM, out);
     expect(call, got, out, status, status == 0 ? 3 : 0, values);
 }
 
@@ -167,9 +166,9 @@ static void finish(const char *call, struct save *v, const uint32_t *freed, size
     struct save before = *v;
     fill(out);
     memset(map, 0xA5, sizeof map);
-    uint32_t got = mopsienna_finish(v->bump, v->length, v->P, v->L, v->count, v->pages, v->places,
-                                    v->entries, v->places, freed, freed_len, v->buffer,
-                                    v->buffer_len, v->numbers, ROOM, map, v->map_len, out);
+    uint32_t got = CALL(finish)(v->bump, v->length, v->P, v->L, v->count, v->pages, v->places,
+                                v->entries, v->places, freed, freed_len, v->buffer, v->buffer_len,
+                                v->numbers, ROOM, map, v->map_len, out);
     expect(call, got, out, status, count, values);
     map_is(call, map, status, v->bump + (v->count > v->L ? v->count - v->L : 0));
     if (status != 0 && memcmp(&before, v, sizeof before) != 0) {
@@ -341,6 +340,80 @@ static void maps_in_saves(void) {
     refused("9 with a map of two bytes", lent(nine, ROOM, 0, 2), 5, 7, MOPSIENNA_BUFFER);
 }
 
+/* A finish that frees these numbers is answered with a list of one page, where `upper` is 0, or of
+ * two. All of it is written, and it is read back. */
+static void filled(const char *call, struct save v, const uint32_t *freed, size_t freed_len,
+                   uint64_t bump, uint32_t lower, uint32_t upper, uint64_t L,
+                   const uint32_t *entries) {
+    const uint32_t pages[2] = {lower, upper};
+    const uint64_t P = upper == 0 ? 1 : 2, size[2] = {P, L};
+    const uint64_t answer[6] = {pages[P - 1], bump, 8192, P, L, P};
+    finish(call, &v, freed, freed_len, 0, 6, answer);
+    holds(call, v.pages, P, pages);
+    holds(call, v.entries, L, entries);
+    holds(call, v.numbers, P, pages);
+    check(call, all(v.buffer, P * PAGE, sizeof v.buffer, 0xA5));
+    for (uint64_t i = 0; i < P; i++)
+        memcpy(lists + pages[i] * PAGE, v.buffer + i * PAGE, PAGE);
+    read_list(call, sizeof lists, pages[P - 1], ROOM, MAP, 0, 2, size);
+    holds(call, listed_pages, P, pages);
+    holds(call, listed_entries, L, entries);
+}
+
+/* Finishes that just fill a page, and those with a number more, which take a further page. */
+static void full_pages_in_saves(void) {
+    enum { TEN = 10, LAST = 100 + FULL };
+    const uint32_t ten[1] = {TEN}, one[1] = {15}, two[2] = {15, 16}, next[1] = {16};
+    uint32_t entries[FULL + 1], new_entries[FULL + 1], freed[FULL + 1];
+    for (uint32_t i = 0; i <= FULL; i++) {
+        entries[i] = 101 + i;
+        freed[i] = 1 + i;
+    }
+    memcpy(new_entries, entries, sizeof entries);
+
+    /* Pages from the bump. */
+    const struct save empty = new_save(FULL + 2, 8192, 0, NULL, 0, NULL, 0);
+    filled("as many freed as a page has", empty, freed, FULL, FULL + 3, FULL + 2, 0, FULL, freed);
+    filled("one more", empty, freed, FULL + 1, FULL + 4, FULL + 2, FULL + 3, FULL + 1, freed);
+
+    /* The last entry is the new page's number, and page 10 the last entry. */
+    const struct save less = new_save(LAST, 8192, 1, ten, FULL - 1, entries, 0);
+    new_entries[FULL - 2] = 15;
+    new_entries[FULL - 1] = TEN;
+    filled("one freed, on a page with a place", less, one, 1, LAST, LAST - 1, 0, FULL, new_entries);
+
+    /* The last entry but one is the number of a further page, for which one place is left free. */
+    new_entries[FULL - 3] = 15;
+    new_entries[FULL - 2] = 16;
+    filled("two freed, on a page with a place", less, two, 2, LAST, LAST - 1, LAST - 2, FULL,
+           new_entries);
+
+    /* The samples of document 01: one freed on a full page, and then another one. */
+    const struct save full = new_save(LAST + 1, 8192, 1, ten, FULL, entries, 0);
+    new_entries[FULL - 3] = LAST - 2;
+    new_entries[FULL - 2] = 15;
+    filled("one freed, on a full page", full, one, 1, LAST + 1, LAST, LAST - 1, FULL, new_entries);
+    const uint32_t both[2] = {LAST, LAST - 1};
+    const struct save one_free = new_save(LAST + 1, 8192, 2, both, FULL, new_entries, 0);
+    new_entries[FULL - 2] = 16;
+    new_entries[FULL - 1] = LAST;
+    new_entries[FULL] = LAST - 1;
+    filled("one freed, where a place was left free", one_free, next, 1, LAST + 1, TEN, 15, FULL + 1,
+           new_entries);
+
+    /* The most entries on one page, and the fewest on two. */
+    struct save v = full;
+    hand_out("from a full page", &v, 0, LAST, 8192);
+    v.L = FULL + 1;
+    hand_out("from a page with an entry too many", &v, MOPSIENNA_STATE, 0, 0);
+    finish("a page with an entry too many", &v, one, 1, MOPSIENNA_STATE, 0, NULL);
+    v = one_free;
+    hand_out("from two pages, one with a place free", &v, 0, TEN, 8192);
+    v.L = FULL - 1;
+    hand_out("from two pages, two places free", &v, MOPSIENNA_STATE, 0, 0);
+    finish("two pages, two places free", &v, one, 1, MOPSIENNA_STATE, 0, NULL);
+}
+
 /* Writes a list page with the entries from `first` up. */
 static void write_list_page(uint32_t page, uint32_t prev, uint32_t count, uint32_t first) {
     uint8_t *b = lists + page * PAGE;
@@ -351,6 +424,13 @@ static void write_list_page(uint32_t page, uint32_t prev, uint32_t count, uint32
     for (uint32_t i = 0; i < count; i++)
         for (int k = 0; k < 4; k++)
             b[6 + 4 * i + k] = (uint8_t)((first + i) >> 8 * k);
+}
+
+/* Makes the count of a list page another one. */
+static void put_count(uint32_t page, uint32_t count) {
+    uint8_t *b = lists + page * PAGE + 4;
+    b[0] = (uint8_t)count;
+    b[1] = (uint8_t)(count >> 8);
 }
 
 /* Makes an entry of a list page another number. */
@@ -422,8 +502,40 @@ static void two_pages(void) {
     read_list("5 before 21, no whole page", PAGE - 1, 2, ROOM, 0, MOPSIENNA_CHAIN, 0, NULL);
 }
 
+/* The most entries that a list page may have, and the fewest below the head. */
+static void full_lists(void) {
+    const size_t length = sizeof lists;
+    const uint64_t size[2] = {1, FULL}, fewest[2] = {2, FULL}, one[1] = {1}, two[1] = {2};
+    const uint32_t pages[2] = {1, 2};
+    uint32_t entries[FULL];
+    for (uint32_t i = 0; i < FULL; i++)
+        entries[i] = 3 + i;
+    write_list_page(2, 0, FULL, 3);
+    read_list("a full page", length, 2, ROOM, MAP, 0, 2, size);
+    holds("the full page", listed_pages, 1, pages + 1);
+    holds("its entries", listed_entries, FULL, entries);
+    put_count(2, FULL + 1);
+    read_list("an entry more than a page has room for", length, 2, ROOM, MAP, MOPSIENNA_COUNT, 1,
+              two);
+    put_count(2, UINT16_MAX);
+    read_list("the largest count", length, 2, ROOM, MAP, MOPSIENNA_COUNT, 1, two);
+
+    write_list_page(1, 0, FULL - 1, 3);
+    write_list_page(2, 1, 1, FULL + 2);
+    read_list("a place free under one entry", length, 2, ROOM, MAP, 0, 2, fewest);
+    holds("both pages", listed_pages, 2, pages);
+    holds("their entries", listed_entries, FULL, entries);
+    put_count(1, FULL - 2);
+    read_list("two places free under one entry", length, 2, ROOM, MAP, MOPSIENNA_COUNT, 1, one);
+    put_count(1, FULL + 1);
+    read_list("an entry too many under one", length, 2, ROOM, MAP, MOPSIENNA_COUNT, 1, one);
+    put_count(1, FULL - 1);
+    write_list_page(2, 1, 2, FULL + 2);
+    read_list("a place free under two entries", length, 2, ROOM, MAP, MOPSIENNA_COUNT, 1, one);
+}
+
 /* The pages of a value of SIZE bytes: 16 of them, numbered from FIRST on. */
-enum { SIZE = 61381, TOTAL = 16, FIRST = 3, STORE = (FIRST + TOTAL) * PAGE };
+enum { SIZE = 15 * BODY + 1, TOTAL = 16, FIRST = 3, STORE = (FIRST + TOTAL) * PAGE };
 
 static uint8_t value[SIZE], read_back[SIZE + 8], store[STORE], cell[128];
 static uint32_t numbers[TOTAL], found[TOTAL + 2];
@@ -437,31 +549,30 @@ static void write_value(void) {
         numbers[i] = FIRST + i;
     for (uint64_t i = 0; i < TOTAL; i++) {
         memset(page, 0xA5, sizeof page);
-        uint32_t got =
-            mopsienna_write_value_page(value, SIZE, numbers, TOTAL, i, page, sizeof page);
+        uint32_t got = CALL(write_value_page)(value, SIZE, numbers, TOTAL, i, page, sizeof page);
         check("a value page", got == 0 && all(page, PAGE, sizeof page, 0xA5));
         memcpy(store + PAGE * (FIRST + i), page, PAGE);
     }
-    const uint8_t first[8] = {1, 0, 0xF8, 0x0F, FIRST + 15, 0, 0, 0}, last[4] = {0, 0, 5, 0};
-    check("page 0: one number, 4,088 bytes", memcmp(store + PAGE * FIRST, first, 8) == 0);
+    const uint8_t first[8] = {1, 0, 0xF8, BODY >> 8, FIRST + 15, 0, 0, 0}, last[4] = {0, 0, 5, 0};
+    check("page 0: one number, 4,088 or 1,016 bytes", memcmp(store + PAGE * FIRST, first, 8) == 0);
     check("page 15: 5 bytes", memcmp(store + PAGE * (FIRST + 15), last, 4) == 0);
     check("no byte",
-          mopsienna_write_value_page(value, 0, numbers, TOTAL, 0, page, PAGE) == MOPSIENNA_SIZE);
-    check("a number less", mopsienna_write_value_page(value, SIZE, numbers, TOTAL - 1, 0, page,
-                                                      PAGE) == MOPSIENNA_INDEX);
-    check("index 16", mopsienna_write_value_page(value, SIZE, numbers, TOTAL, TOTAL, page, PAGE) ==
+          CALL(write_value_page)(value, 0, numbers, TOTAL, 0, page, PAGE) == MOPSIENNA_SIZE);
+    check("a number less", CALL(write_value_page)(value, SIZE, numbers, TOTAL - 1, 0, page, PAGE) ==
+                               MOPSIENNA_INDEX);
+    check("index 16", CALL(write_value_page)(value, SIZE, numbers, TOTAL, TOTAL, page, PAGE) ==
                           MOPSIENNA_INDEX);
-    check("a byte less", mopsienna_write_value_page(value, SIZE, numbers, TOTAL, 0, page,
-                                                    PAGE - 1) == MOPSIENNA_BUFFER);
+    check("a byte less", CALL(write_value_page)(value, SIZE, numbers, TOTAL, 0, page, PAGE - 1) ==
+                             MOPSIENNA_BUFFER);
 
     memset(hash, 0x11, sizeof hash);
     memset(cell, 0xA5, sizeof cell);
-    check("a cell", mopsienna_encode_cell(SIZE, hash, numbers, 15, cell, sizeof cell) == 0);
+    check("a cell", CALL(encode_cell)(SIZE, hash, numbers, 15, cell, sizeof cell) == 0);
     check("behind the cell", all(cell, 100, sizeof cell, 0xA5));
-    check("a cell too large", mopsienna_encode_cell(MOPSIENNA_MAX_SIZE + 1, hash, numbers, 15, cell,
-                                                    100) == MOPSIENNA_SIZE);
+    check("a cell too large",
+          CALL(encode_cell)(MAX_SIZE + 1, hash, numbers, 15, cell, 100) == MOPSIENNA_SIZE);
     check("a cell's byte less",
-          mopsienna_encode_cell(SIZE, hash, numbers, 15, cell, 99) == MOPSIENNA_ROOM);
+          CALL(encode_cell)(SIZE, hash, numbers, 15, cell, 99) == MOPSIENNA_ROOM);
 }
 
 /* Makes a read and a delete of the cell's first bytes over this much of the store, each expected to
@@ -473,12 +584,12 @@ static void walk(const char *call, size_t cell_len, size_t store_len, uint32_t s
                  status == MOPSIENNA_EMPTY_PAGE;
     fill(out);
     memset(read_back, 0xA5, sizeof read_back);
-    uint32_t got = mopsienna_read_value(cell, cell_len, store, store_len, found, TOTAL + 2,
-                                        read_back, sizeof read_back, out);
+    uint32_t got = CALL(read_value)(cell, cell_len, store, store_len, found, TOTAL + 2, read_back,
+                                    sizeof read_back, out);
     expect(call, got, out, status, valued, &index);
     check("the value buffer after a refusal", all(read_back, 0, sizeof read_back, 0xA5));
     fill(out);
-    got = mopsienna_delete_value(cell, cell_len, store, store_len, found, TOTAL + 2, out);
+    got = CALL(delete_value)(cell, cell_len, store, store_len, found, TOTAL + 2, out);
     expect(call, got, out, status, valued, &index);
 }
 
@@ -501,13 +612,13 @@ static void empty_pages(void) {
     memset(found, 0xA5, sizeof found);
     memset(read_back, 0xA5, sizeof read_back);
     fill(out);
-    uint32_t got = mopsienna_read_value(cell, 100, store, STORE, found, TOTAL + 2, read_back,
-                                        sizeof read_back, out);
+    uint32_t got = CALL(read_value)(cell, 100, store, STORE, found, TOTAL + 2, read_back,
+                                    sizeof read_back, out);
     expect("an empty last page", got, out, MOPSIENNA_EMPTY_PAGE, 1, &fifteen);
     check("all numbers", memcmp(found, numbers, sizeof numbers) == 0 && found[TOTAL] == FILLER);
     check("no byte of the value", all(read_back, 0, sizeof read_back, 0xA5));
     fill(out);
-    got = mopsienna_delete_value(cell, 100, store, STORE, found, TOTAL + 2, out);
+    got = CALL(delete_value)(cell, 100, store, STORE, found, TOTAL + 2, out);
     expect("a delete that ends before it", got, out, 0, 1, &deleted);
     memcpy(store + PAGE * (FIRST + 15), last, 4);
 }
@@ -519,7 +630,7 @@ static void values(void) {
     uint8_t hash[32];
     fill(out);
     const uint64_t counts[2] = {SIZE, 15};
-    uint32_t got = mopsienna_decode_cell(cell, 100, hash, out);
+    uint32_t got = CALL(decode_cell)(cell, 100, hash, out);
     expect("decode the cell", got, out, 0, 2, counts);
     check("the hash", all(hash, 0, sizeof hash, 0x11));
 
@@ -527,23 +638,23 @@ static void values(void) {
     fill(out);
     memset(read_back, 0xA5, sizeof read_back);
     memset(found, 0xA5, sizeof found);
-    got = mopsienna_read_value(cell, 100, store, STORE, found, TOTAL + 2, read_back,
-                               sizeof read_back, out);
+    got = CALL(read_value)(cell, 100, store, STORE, found, TOTAL + 2, read_back, sizeof read_back,
+                           out);
     expect("read the value", got, out, 0, 2, read);
     check("the value",
           memcmp(read_back, value, SIZE) == 0 && all(read_back, SIZE, sizeof read_back, 0xA5));
     check("its numbers", memcmp(found, numbers, sizeof numbers) == 0 && found[TOTAL] == FILLER);
     fill(out);
     memset(found, 0xA5, sizeof found);
-    got = mopsienna_delete_value(cell, 100, store, STORE, found, TOTAL + 2, out);
+    got = CALL(delete_value)(cell, 100, store, STORE, found, TOTAL + 2, out);
     expect("delete the value", got, out, 0, 1, deleted);
     check("the numbers deleted",
           memcmp(found, numbers, sizeof numbers) == 0 && found[TOTAL] == FILLER);
 
     fill(out);
-    got = mopsienna_read_value(cell, 100, store, STORE, found, TOTAL - 1, read_back, SIZE, out);
+    got = CALL(read_value)(cell, 100, store, STORE, found, TOTAL - 1, read_back, SIZE, out);
     expect("a short number table", got, out, MOPSIENNA_ROOM, 0, out);
-    got = mopsienna_read_value(cell, 100, store, STORE, found, TOTAL, read_back, SIZE - 1, out);
+    got = CALL(read_value)(cell, 100, store, STORE, found, TOTAL, read_back, SIZE - 1, out);
     expect("a short value buffer", got, out, MOPSIENNA_ROOM, 0, out);
     walk("a short cell", 40, STORE, MOPSIENNA_CELL, 0);
     walk("a cell of no whole numbers", 98, STORE, MOPSIENNA_CELL, 0);
@@ -555,7 +666,7 @@ static void values(void) {
     memset(read_back, 0xA5, sizeof read_back);
     fill(out);
     const uint64_t fifteen = 15;
-    got = mopsienna_read_value(cell, 100, store, STORE, found, TOTAL, read_back, SIZE, out);
+    got = CALL(read_value)(cell, 100, store, STORE, found, TOTAL, read_back, SIZE, out);
     expect("an unknown number", got, out, MOPSIENNA_UNKNOWN, 1, &fifteen);
     store[PAGE * FIRST] = 1;
     store[PAGE * FIRST + 2] += 1;
@@ -568,11 +679,36 @@ static void values(void) {
     walk("a number too many", 104, STORE, MOPSIENNA_NUMBERS, 0);
     store[PAGE * (FIRST + 15) + 2] = 4;
     fill(out);
-    got = mopsienna_read_value(cell, 100, store, STORE, found, TOTAL, read_back, SIZE, out);
+    got = CALL(read_value)(cell, 100, store, STORE, found, TOTAL, read_back, SIZE, out);
     expect("a byte too few", got, out, MOPSIENNA_BYTES, 0, out);
     store[PAGE * (FIRST + 15) + 2] = 5;
     memset(cell, 0, 8);
     walk("a size of 0", 100, STORE, MOPSIENNA_SIZE, 0);
+}
+
+/* The largest size in a cell, and one more. */
+static void sizes_in_cells(void) {
+    const uint64_t counts[2] = {MAX_SIZE, 15};
+    uint8_t hash[32];
+    uint64_t out[8];
+    memset(hash, 0x11, sizeof hash);
+    check("the largest size out", CALL(encode_cell)(MAX_SIZE, hash, numbers, 15, cell, 100) == 0);
+    fill(out);
+    memset(hash, 0xA5, sizeof hash);
+    uint32_t got = CALL(decode_cell)(cell, 100, hash, out);
+    expect("the largest size in", got, out, 0, 2, counts);
+    check("its hash", all(hash, 0, sizeof hash, 0x11));
+    walk("the largest size", 100, STORE, MOPSIENNA_ROOM, 0);
+
+    check("one more out",
+          CALL(encode_cell)(MAX_SIZE + 1, hash, numbers, 15, cell, 100) == MOPSIENNA_SIZE);
+    cell[0] += 1;
+    fill(out);
+    memset(hash, 0xA5, sizeof hash);
+    got = CALL(decode_cell)(cell, 100, hash, out);
+    expect("one more in", got, out, MOPSIENNA_SIZE, 0, NULL);
+    check("no hash", all(hash, 0, sizeof hash, 0xA5));
+    walk("one more", 100, STORE, MOPSIENNA_SIZE, 0);
 }
 
 static void lookup(const char *call, size_t pending_len, uint32_t page, uint32_t status, int count,
@@ -581,7 +717,7 @@ static void lookup(const char *call, size_t pending_len, uint32_t page, uint32_t
     uint64_t out[8], expected[2] = {first, second};
     fill(out);
     uint32_t got =
-        mopsienna_lookup(pending_numbers, 3, read_back, pending_len, store, STORE, page, out);
+        CALL(lookup)(pending_numbers, 3, read_back, pending_len, store, STORE, page, out);
     expect(call, got, out, status, count, expected);
 }
 
@@ -595,15 +731,7 @@ static void lookups(void) {
     lookup("too few pending bytes", 3 * PAGE - 1, 4, MOPSIENNA_BUFFER, 0, 0, 0);
 }
 
-int main(void) {
-    saves();
-    repeats_in_saves();
-    maps_in_saves();
-    short_lists();
-    two_pages();
-    values();
-    lookups();
-
+static void grows(void) {
     grow(0, 0, 8192);
     grow(1, 0, 8192);
     grow(2, 0, 16384);
@@ -612,7 +740,21 @@ int main(void) {
     grow(MOPSIENNA_MAX_BUMP, 0, 4294959104);
     grow(MOPSIENNA_MAX_BUMP + 1, MOPSIENNA_LIMIT, 0);
     grow(UINT32_MAX, MOPSIENNA_LIMIT, 0);
+}
 
+static void totals(void) {
+#ifdef PANEL
+    total(1, 0, 1, 1, 1019, 1);
+    total(15300, 0, 15, 15, 0, 15);
+    total(15301, 0, 16, 15, 1015, 16);
+    total(16316, 0, 16, 15, 0, 16);
+    total(16317, 0, 17, 15, 1015, 17);
+    total(274378, 0, 270, 15, 2, 270);
+    total(274379, 0, 270, 15, 1, 271);
+    total(274380, 0, 270, 15, 0, 271);
+    total(274381, 0, 271, 15, 1015, 271);
+    total(MAX_SIZE, 0, 1033, 15, 1012, 1033);
+#else
     total(1, 0, 1, 1, 4091, 1);
     total(61380, 0, 15, 15, 0, 15);
     total(61381, 0, 16, 15, 4087, 16);
@@ -622,11 +764,27 @@ int main(void) {
     total(4243403, 0, 1038, 15, 1, 1039);
     total(4243404, 0, 1038, 15, 0, 1039);
     total(4243405, 0, 1039, 15, 4087, 1039);
-    total(MOPSIENNA_MAX_SIZE, 0, 131329, 15, 2100, 131329);
+    total(MAX_SIZE, 0, 131329, 15, 2100, 131329);
+#endif
     total(0, MOPSIENNA_SIZE, 0, 0, 0, 0);
-    total(MOPSIENNA_MAX_SIZE + 1, MOPSIENNA_SIZE, 0, 0, 0, 0);
+    total(MAX_SIZE + 1, MOPSIENNA_SIZE, 0, 0, 0, 0);
     total(UINT64_MAX, MOPSIENNA_SIZE, 0, 0, 0, 0);
+}
 
-    printf("C interface: %d checks, %d wrong\n", checks, failures);
+int main(void) {
+    saves();
+    repeats_in_saves();
+    maps_in_saves();
+    full_pages_in_saves();
+    short_lists();
+    two_pages();
+    full_lists();
+    values();
+    sizes_in_cells();
+    lookups();
+    grows();
+    totals();
+
+    printf("C interface, pages of %d bytes: %d checks, %d wrong\n", PAGE, checks, failures);
     return failures != 0;
 }

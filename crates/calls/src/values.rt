@@ -1,4 +1,7 @@
 // Values: writing their pages, their cells, reading and deleting.
+//
+// Writing, reading and deleting are inlined into the function of the C interface above them, and so are the operations below: each has its page size
+// as a constant there. With one body for two page sizes a small value takes up to a fifth longer.
 ghost use Rattle.std.specs.Prelude.{[], ◌∷◌};
 ghost use Rattle.overflow.specs.Totals.{total_by};
 ghost use Rattle.calls.specs.Values.{WritesPageBy, EncodesCell, DecodesCell, ReadsValue, DeletesValue};
@@ -31,6 +34,7 @@ impl Told for usize {
 }
 
 // Writes page `index` of a value, which has as many pages as the rule says, to the start of the page buffer.
+#[inline(always)]
 pub fn write_value_page(
     page_size: PageSize,
     rule: TotalRule,
@@ -65,6 +69,7 @@ pub fn decode_cell(page_size: PageSize, cell: &[u8], hash: &mut [u8; 32], out: &
 }
 
 // out: size, numbers found. Refusals 14, 15, 16 and 25: the index in the walk.
+#[inline(always)]
 pub fn read_value(
     page_size: PageSize,
     cell: &[u8],
@@ -82,6 +87,7 @@ pub fn read_value(
 }
 
 // out: numbers found. Refusals 15, 16 and 25: the index in the walk.
+#[inline(always)]
 pub fn delete_value(
     page_size: PageSize,
     cell: &[u8],

@@ -15,7 +15,9 @@ use page::size::PageSize;
 use refusal::Refusal;
 
 // Writes page `index` of a value, which has as many pages as the rule says, to the start of the page buffer, and answers how many bytes it has. After
-// a refusal the buffer is as it was. The index counts the value's pages, and is no place in one of the slices.
+// a refusal the buffer is as it was. The index counts the value's pages, and is no place in one of the slices. Inlined for the page size, as
+// in `calls`.
+#[inline(always)]
 pub fn chunk(
     page_size: PageSize,
     rule: TotalRule,
@@ -44,7 +46,8 @@ pub fn chunk(
 }
 
 // Makes page `index` of a value that has as many pages as numbers are lent, at the start of the buffer: its part of the numbers past
-// the cell's, and its part of the bytes.
+// the cell's, and its part of the bytes. Inlined as `chunk` is.
+#[inline(always)]
 fn write_page(page_size: PageSize, value: &[u8], numbers: &[u32], index: usize, page: &mut [u8])
     requires few { length numbers.now ≤ max_size page_size + 4 }
     requires inside { index < length numbers.now }

@@ -11,8 +11,9 @@ use refusal::Refusal;
 
 // Collects the numbers of the pages of a cell's value, and answers how many there are. The walk ends with the first page that has value
 // bytes: in a chain as the writer makes it no page behind that one has numbers. No room is asked for the bytes, so there is enough for the
-// largest value.
+// largest value. Inlined for the page size, as in `calls`.
 #[tactic(auto, using(crate::proofs::AdmitLaws::admission, crate::proofs::ReadLaws::delete_refused, crate::proofs::ReadLaws::part_long))]
+#[inline(always)]
 pub fn delete(store: &Store, cell: &[u8], numbers: &mut [u32]) -> Result<usize, Refusal>
     ensures { effect (deleted_outcome result) numbers.new ≡ delete_into store.now.page_size cell.now store.now.bytes numbers.old }
 {

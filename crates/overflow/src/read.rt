@@ -15,8 +15,9 @@ use page::store::Store;
 use refusal::Refusal;
 
 // Reads the value of a cell. The number table then holds the numbers of its pages, after a refusal in the walk those found before;
-// the value buffer is written only if all is well.
+// the value buffer is written only if all is well. Inlined for the page size, as in `calls`.
 #[tactic(auto, using(crate::proofs::AdmitLaws::admission, crate::proofs::ReadLaws::read_refused, crate::proofs::ReadLaws::part_long))]
+#[inline(always)]
 pub fn read(
     store: &Store,
     cell: &[u8],

@@ -1,7 +1,7 @@
 // Makes calls that were recorded with their answers, and compares what they give now.
 //
-// Each line of standard input is one call: its kind, what goes in and what has to come out, as the crate `replayed` says of each. A line
-// that starts with `#` is skipped.
+// Each line of standard input is one call: its kind, what goes in and what has to come out, as the crate `replayed` says of each. What depends on
+// the page size has it in its line. A line that starts with `#` is skipped.
 #![tactic(auto)]
 
 use record_line::text::numbers;

@@ -6,4 +6,5 @@ pub mod RollbackLaws
 pub mod SeasonsLaws
 pub mod BridgeLaws
 pub mod HandedOutLaws
+pub mod SizesLaws
 pub mod Witness

@@ -14,9 +14,9 @@ use Rattle.laws.proofs.PlacesLaws.{get_d-mem}
 use Rattle.laws.specs.Counting.{Different}
 use Rattle.laws.proofs.CountLaws.{different_apart, once_different, all_different_once}
 use Rattle.refusal.specs.Outcome.{answer}
-use Rattle.page.specs.PageSize.{IsPageSize, standard_page_size}
+use Rattle.page.specs.PageSize.{IsPageSize}
 use Rattle.page.specs.Pages.{page_count, page_at, Write, write_page, write_pages}
-use Rattle.page.proofs.PageSizeLaws.{page_least, page-size}
+use Rattle.page.proofs.PageSizeLaws.{page_least}
 use Rattle.page.proofs.PagesLaws.{page_within_lem, page_count_mono, page_at-grown, length_written, page_same, page_other}
 use Rattle.free_list.specs.Shape.{FreeList, head_of}
 use Rattle.free_list.specs.StoredList.{StoredList}
@@ -173,7 +173,3 @@ module _ {s : ℕ} (size : IsPageSize s) {a : State} (first : Good s a) where
 -- demand 3, at every page size
 pub rollback : {s : ℕ} → IsPageSize s → Rollback s
 rollback size a after first c = let k = cut_left size first c in (list_survives size first k, value_survives size first k)
-
--- demand 3, at document 01's page size
-pub rollback-standard : Rollback standard_page_size
-rollback-standard = rollback page-size

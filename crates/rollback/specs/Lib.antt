@@ -1,8 +1,10 @@
 -- The calls of a save (`Calls`), what a cut leaves of the save before it (`Rollback`), one save after another (`Seasons`), the calls of the code
--- (`CodeCalls`), and that the numbers handed out in a save differ (`HandedOut`); and small saves that meet all that is asked (`Witness`).
+-- (`CodeCalls`), that the numbers handed out in a save differ (`HandedOut`), and every theorem at both page sizes of the C interface (`Sizes`); and
+-- small saves that meet all that is asked (`Witness`).
 pub mod Calls
 pub mod Rollback
 pub mod Seasons
 pub mod CodeCalls
 pub mod HandedOut
+pub mod Sizes
 pub mod Witness

@@ -30,6 +30,7 @@ use Rattle.overflow.specs.Layout.{numbers_before, numbers_on, bytes_before, byte
 use Rattle.overflow.specs.ValuePages.{number_count, byte_count, value_numbers, value_bytes, encode_value_page, value_page, chunk, chunk_into}
 use Rattle.overflow.specs.Cells.{cell_bytes, cell_size, cell_count, cell_of, decode_cell}
 use Rattle.overflow.specs.Reading.{in_store, parse_page, walk, value_total, admitted, read_value_into, delete_into}
+use Rattle.samples.proofs.LargeTotals.{large}
 use Rattle.samples.specs.Samples.{old, pages, list, save, room, unmarked, finish, writes, value, write, writes_bytes, Samples}
 
 -- a whole page in a buffer with a place more
@@ -59,14 +60,6 @@ page_of_lem : (i : ℕ) (bytes : List ℕ) → chunk standard_page_size 16 value
     → length bytes ≡ standard_page_size → write i ≡ writes_bytes bytes
 unfolding chunk_into
 page_of_lem i bytes done long = rw (done, page-stands bytes long, long)
-
--- what is told of a large size: its new total is not looked for from 0 on, but is the old one or one less
-large : (size : ℕ) {total cell spare room : ℕ} → 1 ≤ size
-    → cond (holds standard_page_size size (old_total standard_page_size size - 1)) (old_total standard_page_size size - 1) (old_total standard_page_size size) ≡ total
-    → check (leb 1 size && leb size (max_size standard_page_size)) 10 [] (answer (total_of standard_page_size size total)) ≡ pages total cell spare room
-    → page_total standard_page_size size ≡ pages total cell spare room
-unfolding page_total
-large size some e told = rw (one_less page-size size some ∙ e) told
 
 pub samples : Samples
 unfolding count all_different all_below bytes_in_use cleared numbers_from number_at numbers_at bytes_of bytes_of_all capacity page_count page_at prev_of count_of entries_of encode_list_page count_fits all_entries_fit read_from list_from read_list_into is_shape is_fragmented entries_below entries_on head_of pages_for room_of pages_after pushed_after first_plan next_plan enough_room plan_of state_fits next_number next_recorded hand_out count_up new_list encoded_page encoded_pages carried_out finish_list first_bad finish_answer finished admitted_finish fitted finishing bytes_of_pages finish_into grow grown rounded_up max_size holds first_from new_total raw_pages old_total spare_room total_of page_total numbers_before numbers_on bytes_before bytes_on encode_value_page value_page chunk chunk_into number_count byte_count value_numbers value_bytes cell_bytes cell_size cell_count cell_of decode_cell in_store parse_page walk value_total admitted read_value_into delete_into
@@ -114,11 +107,11 @@ samples =
       total_61381 = refl;
       total_65468 = refl;
       total_65469 = refl;
-      total_4243402 = large 4243402 (omega arith) refl refl;
-      total_4243403 = large 4243403 (omega arith) refl refl;
-      total_4243404 = large 4243404 (omega arith) refl refl;
-      total_4243405 = large 4243405 (omega arith) refl refl;
-      total_largest = large (2 ^ 29) (omega arith) refl refl;
+      total_4243402 = large page-size 4243402 (omega arith) refl refl;
+      total_4243403 = large page-size 4243403 (omega arith) refl refl;
+      total_4243404 = large page-size 4243404 (omega arith) refl refl;
+      total_4243405 = large page-size 4243405 (omega arith) refl refl;
+      total_largest = large page-size (2 ^ 29) (omega arith) refl refl;
       page_0_of_61381 = page_of_lem 0 _ refl refl;
       page_15_of_61381 = page_of_lem 15 _ refl refl;
       empty_page_read = refl;

@@ -1,2 +1,4 @@
 -- The samples hold.
+pub mod LargeTotals
 pub mod Hold
+pub mod PanelHold

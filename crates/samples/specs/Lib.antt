@@ -1,2 +1,3 @@
--- Document 01's marked samples.
+-- Document 01's marked samples, and the panel's limits and totals.
 pub mod Samples
+pub mod Panel

@@ -1,4 +1,4 @@
-// Reads sizes from standard input, one a line, and prints how many pages a value of each takes.
+// Reads sizes from standard input, one a line, and prints how many pages of 4,096 bytes a value of each takes.
 //
 // What is printed is document 01's listing. The crate `listing` does the work on bytes; here they are read and written.
 #![tactic(auto)]
