@@ -8,10 +8,7 @@
 //! the Rust's goes through the numbers, which the library only counts.
 
 use crate::timing::{measured, Ours, Row, Work};
-use mopsienna_sys::{
-    values::{decode_cell_into, encode_cell, Hash},
-    Form, UNTOUCHED,
-};
+use mopsienna_sys::{values::Hash, Form, UNTOUCHED};
 use nomt_4096::beatree::{
     allocator::PageNumber,
     ops::overflow::{
@@ -83,10 +80,10 @@ fn totalling(size: u64) -> (Work, Work) {
 fn encoding() -> (Work, Work) {
     let mut cell = [0; CELL];
     let numbers = NUMBERS.map(PageNumber);
-    encode_cell(SIZE, &HASH, &NUMBERS, &mut cell);
+    Form::Fixed.encode_cell(SIZE, &HASH, &NUMBERS, &mut cell);
     assert!(cell[..] == overflow::encode_cell(SIZE as usize, HASH, &numbers));
     let ours = repeated(move || {
-        black_box(encode_cell(SIZE, &HASH, black_box(&NUMBERS), &mut cell));
+        black_box(Form::Fixed.encode_cell(SIZE, &HASH, black_box(&NUMBERS), &mut cell));
         black_box(&mut cell);
     });
     let theirs = repeated(move || {
@@ -104,11 +101,11 @@ fn decoding() -> (Work, Work) {
     let numbers = NUMBERS.map(PageNumber);
     let cell = overflow::encode_cell(SIZE as usize, HASH, &numbers);
     let (mut hash, mut out) = ([0; 32], UNTOUCHED);
-    assert_eq!(decode_cell_into(&cell, &mut hash, &mut out), 0);
+    assert_eq!(Form::Fixed.decode_cell_into(&cell, &mut hash, &mut out), 0);
     assert!(hash == HASH && out[0] == SIZE && out[1] == NUMBERS.len() as u64);
     let theirs_cell = cell.clone();
     let ours = repeated(move || {
-        black_box(decode_cell_into(black_box(&cell), &mut hash, &mut out));
+        black_box(Form::Fixed.decode_cell_into(black_box(&cell), &mut hash, &mut out));
         black_box((&mut hash, &mut out));
     });
     let theirs = repeated(move || {

@@ -1,7 +1,7 @@
 //! What the Rust does where the library refuses, or answers something else; docs/DIFFERENCES.md has an
 //! input for each. All of it has to be seen, and nothing else.
 
-use crate::{report::Report, Plan};
+use crate::report::Report;
 
 /// By operation: the library's reply, and what the Rust does there.
 const DIFFERENCES: [(&str, &[(u32, &str)]); 14] = [
@@ -61,15 +61,20 @@ const DIFFERENCES: [(&str, &[(u32, &str)]); 14] = [
             (0, "leaves the bytes past the value's"),
             (0, "writes a page more"),
             (10, "panics"),
+            (10, "writes it"),
         ],
     ),
-    ("encode_cell", &[(10, "panics")]),
-    ("decode_cell", &[(10, "panics"), (12, "panics")]),
+    ("encode_cell", &[(10, "panics"), (10, "writes it")]),
+    (
+        "decode_cell",
+        &[(10, "panics"), (10, "reads it"), (12, "panics")],
+    ),
     (
         "read_value",
         &[
             (0, "panics"),
             (10, "panics"),
+            (10, "reads it"),
             (12, "panics"),
             (14, "panics"),
             (15, "panics"),
@@ -86,6 +91,7 @@ const DIFFERENCES: [(&str, &[(u32, &str)]); 14] = [
         "delete_value",
         &[
             (0, "panics"),
+            (10, "deletes it"),
             (10, "panics"),
             (12, "panics"),
             (15, "deletes it"),
@@ -105,18 +111,12 @@ const DIFFERENCES: [(&str, &[(u32, &str)]); 14] = [
     ("delete_value in histories", &[(0, "panics")]),
 ];
 
-/// What only the long form sees.
-const LONG: (&str, (u32, &str)) = ("write_value_page", (10, "writes it"));
-
 /// Adds a disagreement for each difference that was not seen, and for each that is not known.
-pub fn check(plan: &Plan, report: &mut Report) {
+pub fn check(report: &mut Report) {
     let operation = report.operation();
     let listed = DIFFERENCES
         .into_iter()
         .filter(|(name, _)| *name == operation)
         .flat_map(|(_, differences)| differences.iter().copied());
-    let long = Some(LONG)
-        .filter(|(name, _)| *name == operation && !plan.short)
-        .map(|(_, difference)| difference);
-    report.compare_differences(&listed.chain(long).collect::<Vec<_>>());
+    report.compare_differences(&listed.collect::<Vec<_>>());
 }

@@ -131,7 +131,8 @@ pub fn compare(
     comparison.at::<nomt_24::Plain>(Form::Sized(24), seed, saves)?;
     comparison.at::<nomt_28::Plain>(Form::Sized(28), seed, saves)?;
     comparison.at::<nomt_32::Plain>(Form::Sized(32), seed, saves)?;
-    comparison.at::<nomt_1024::Plain>(Form::Sized(1024), seed, saves / 10)?;
+    comparison.at::<nomt_1024::Plain>(Form::Panel, seed, saves / 10)?;
+    comparison.at::<nomt_1024::Plain>(Form::Sized(1024), seed, saves / 50)?;
     comparison.at::<nomt_4096::Plain>(Form::Sized(4096), seed, saves / 50)?;
     Ok(comparison.finish())
 }

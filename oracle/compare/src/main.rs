@@ -102,7 +102,7 @@ fn compare(plan: &Plan) -> io::Result<bool> {
     let mut reached = BTreeMap::new();
     for operation in operations {
         for mut report in operation()? {
-            differences::check(plan, &mut report);
+            differences::check(&mut report);
             println!("{report}");
             agreed &= report.agrees();
             for (number, calls) in report.replies() {

@@ -47,8 +47,8 @@ pub fn compare(plan: &Plan, library: &dyn Library) -> io::Result<[Report; 3]> {
     fixed::each::<nomt_4096::Plain>(&mut comparison, Form::Fixed)?;
     fixed::each::<nomt_4096::Plain>(&mut comparison, Form::Sized(4096))?;
     differences::each::<nomt_4096::Plain>(&mut comparison, Form::Fixed)?;
-    comparison.group = "libmopsienna, numbers twice".into();
-    repeats::each::<nomt_4096::Plain>(&mut comparison, Form::Fixed, plan.short)?;
+    comparison.repeats::<nomt_4096::Plain>(Form::Fixed, plan.short)?;
+    comparison.repeats::<nomt_1024::Plain>(Form::Panel, plan.short)?;
     comparison.group = "large maps".into();
     large::each::<nomt_4096::Plain>(&mut comparison, Form::Fixed, plan, &[0, 2])?;
     large::each::<nomt_16::Plain>(&mut comparison, Form::Sized(16), plan, &[4])?;
@@ -65,20 +65,17 @@ pub fn compare(plan: &Plan, library: &dyn Library) -> io::Result<[Report; 3]> {
     comparison.small::<nomt_24::Plain>(24, most_pages, seed, saves)?;
     comparison.small::<nomt_28::Plain>(28, most_pages, seed, saves)?;
     comparison.small::<nomt_32::Plain>(32, most_pages, seed, saves)?;
-    comparison.random::<nomt_1024::Plain>(Form::Sized(1024), seed, saves / 20)?;
+    comparison.random::<nomt_1024::Plain>(Form::Panel, seed, saves / 20)?;
+    comparison.random::<nomt_1024::Plain>(Form::Sized(1024), seed, saves / 100)?;
     comparison.random::<nomt_4096::Plain>(Form::Sized(4096), seed, saves / 100)?;
     comparison.random::<nomt_4096::Plain>(Form::Fixed, seed, saves / 50)?;
-    comparison.group = "libmopsienna, long lists".into();
     comparison.most_map = LONG_MAP;
-    for long in 0..long_histories(plan) {
-        let mut random = Random::new(seed + long);
-        let few = long % 2 == 0;
-        history::long::<nomt_4096::Plain>(&mut comparison, Form::Fixed, few, &mut random)?;
-    }
+    comparison.long::<nomt_4096::Plain>(Form::Fixed, seed, long_histories(plan))?;
+    comparison.long::<nomt_1024::Plain>(Form::Panel, seed, long_histories(plan))?;
     Ok(comparison.finish(REPLIES))
 }
 
-/// How many histories go over lists of more than 1,022 pages.
+/// How many histories go over lists of more pages than a page holds entries.
 fn long_histories(plan: &Plan) -> u64 {
     match (plan.short, plan.count) {
         (true, 0..=10_000) => 0,
@@ -153,9 +150,14 @@ impl<'a> Comparison<'a> {
         self.group = format!("{form}, every save up to {most_pages} pages");
         let mut random = Random::new(seed);
         history::every::<R>(self, form, most_pages, &mut random)?;
-        self.group = format!("{form}, numbers twice");
-        repeats::each::<R>(self, form, most_pages == 1)?;
+        self.repeats::<R>(form, most_pages == 1)?;
         self.random::<R>(form, seed, saves)
+    }
+
+    /// Saves with numbers that occur twice.
+    fn repeats<R: Rust>(&mut self, form: Form, few: bool) -> io::Result<()> {
+        self.group = format!("{form}, numbers twice");
+        repeats::each::<R>(self, form, few)
     }
 
     /// Random histories of so many saves altogether, and as many random states.
@@ -163,6 +165,16 @@ impl<'a> Comparison<'a> {
         self.group = format!("{form}, random");
         history::each::<R>(self, form, seed, saves)?;
         states::each::<R>(self, form, seed, saves)
+    }
+
+    /// So many histories over long lists.
+    fn long<R: Rust>(&mut self, form: Form, seed: u64, histories: u64) -> io::Result<()> {
+        self.group = format!("{form}, long lists");
+        for long in 0..histories {
+            let mut random = Random::new(seed + long);
+            history::long::<R>(self, form, long % 2 == 0, &mut random)?;
+        }
+        Ok(())
     }
 
     /// Adds what was reached, and a disagreement if it is not just these replies, and for each kind

@@ -9,7 +9,7 @@ use crate::{
     grow, histories, lists,
     report::Report,
     saves::{self, FINISH, HAND_OUT, READ_BACK},
-    totals,
+    totals::{self, max_size},
     values::{self, DECODE, DELETE, ENCODE, LOOKUP, READ, TOTAL, WRITE, WRITE_OLD},
     Plan,
 };
@@ -20,6 +20,9 @@ use wrong::{Fault, Wrong};
 
 /// The parts of a reply: its places, and its number after them.
 const PARTS: usize = library::UNTOUCHED.len() + 1;
+
+/// The number alone.
+const NUMBER: Range<usize> = PARTS - 1..PARTS;
 
 /// Runs every comparison with every part of a reply changed, at an answer and at a refusal.
 /// Tells whether all changes were caught.
@@ -77,20 +80,23 @@ fn numbers(plan: &Plan, tally: &mut Tally) -> io::Result<()> {
     Ok(())
 }
 
-/// The totals that are changed: of libmopsienna around its limits, of libsized one at each page size; of
-/// both one where the old total is not the new one.
-const TOTALS: [(Form, u64); 12] = [
+/// The totals that are changed: of libmopsienna around its limits, at both its page sizes, of libsized one
+/// at each page size; of both one where the old total is not the new one.
+const TOTALS: [(Form, u64); 15] = [
     (Form::Fixed, 4_243_403),
     (Form::Sized(16), 203),
     (Form::Fixed, 61_381),
-    (Form::Fixed, totals::MAX_SIZE),
-    (Form::Fixed, totals::MAX_SIZE + 1),
-    (Form::Sized(16), totals::MAX_SIZE),
+    (Form::Fixed, max_size(4096)),
+    (Form::Fixed, max_size(4096) + 1),
+    (Form::Panel, 274_379),
+    (Form::Panel, max_size(1024)),
+    (Form::Panel, max_size(1024) + 1),
+    (Form::Sized(16), max_size(16)),
     (Form::Sized(20), 61_381),
     (Form::Sized(24), 61_381),
     (Form::Sized(28), 61_381),
     (Form::Sized(32), 61_381),
-    (Form::Sized(1024), totals::MAX_SIZE + 1),
+    (Form::Sized(1024), max_size(1024) + 1),
     (Form::Sized(4096), 61_381),
 ];
 
@@ -147,7 +153,7 @@ impl Tally {
     }
 
     /// Finds the first call of an operation that gives each number, and makes the comparison with
-    /// each part of these calls changed.
+    /// each part of these calls changed. Of the first such calls in the panel's form it is the number alone.
     fn each_part(
         &mut self,
         operation: usize,
@@ -156,8 +162,9 @@ impl Tally {
     ) -> io::Result<()> {
         let unchanged = Changed::new(operation, None);
         compare(&unchanged)?;
-        for call in unchanged.first.into_inner().into_values() {
-            for part in parts.clone() {
+        for ((panel, _), call) in unchanged.first.into_inner() {
+            let parts = if panel { NUMBER } else { parts.clone() };
+            for part in parts {
                 let changed = Changed::new(operation, Some((call, part)));
                 self.count(call, part, &compare(&changed)?);
             }

@@ -9,6 +9,7 @@ use crate::{
     panics::unless_panic,
     record::{Kind, Line},
     report::Report,
+    values::model::{self, PANEL},
     Plan,
 };
 use common::Random;
@@ -16,7 +17,15 @@ use mopsienna_sys::{Form, Reply};
 use nomt_4096::beatree::leaf::node::{MAX_OVERFLOW_CELL_NODE_POINTERS, MAX_OVERFLOW_VALUE_SIZE};
 use nomt_plain::Values;
 
-pub const MAX_SIZE: u64 = MAX_OVERFLOW_VALUE_SIZE as u64;
+/// The greatest size.
+pub const fn max_size(page_size: usize) -> u64 {
+    model::max_size(page_size) as u64
+}
+
+/// That of the Rust, which is the same at all page sizes.
+const RUST_MAX_SIZE: u64 = MAX_OVERFLOW_VALUE_SIZE as u64;
+const _: () = assert!(max_size(4096) == RUST_MAX_SIZE);
+
 const CELL_NUMBERS: u64 = MAX_OVERFLOW_CELL_NODE_POINTERS as u64;
 
 /// Every size up to this is taken, at every page size.
@@ -41,6 +50,7 @@ pub fn compare(plan: &Plan, library: impl Fn(Form, u64) -> Reply) -> Report {
     };
     // libmopsienna comes first, so that the first case of a kind is at its page size.
     comparison.at::<nomt_4096::Plain>(Form::Fixed);
+    comparison.at::<nomt_1024::Plain>(Form::Panel);
     comparison.at::<nomt_16::Plain>(Form::Sized(16));
     comparison.at::<nomt_20::Plain>(Form::Sized(20));
     comparison.at::<nomt_24::Plain>(Form::Sized(24));
@@ -70,7 +80,8 @@ impl<L: Fn(Form, u64) -> Reply> Comparison<'_, L> {
         // Around every size at which the raw pages change, and every one at which a total does; with
         // libsized, around random ones.
         let body = R::BODY_SIZE as u64;
-        let most_pages = MAX_SIZE.div_ceil(body);
+        let max = max_size(R::PAGE_SIZE);
+        let most_pages = max.div_ceil(body);
         let mut around = |raw_pages: u64| {
             let size = raw_pages * body;
             (size - 3..=size + 3).for_each(&mut check);
@@ -79,30 +90,42 @@ impl<L: Fn(Form, u64) -> Reply> Comparison<'_, L> {
             });
         };
         match form {
-            Form::Fixed => (1..=most_pages).for_each(around),
             Form::Sized(_) => (0..plan.count / CHANGES_SHARE)
                 .for_each(|_| around(1 + random.of_any_length(64) % most_pages)),
+            _ => (1..=most_pages).for_each(around),
         }
 
         // Here the old total is one more than the new one, if pages have 4,096 bytes.
         (4_243_402..=4_243_405).for_each(&mut check);
 
-        (MAX_SIZE - 3..=MAX_SIZE + 3).for_each(&mut check);
-        [1 << 32, 1 << 63, u64::MAX]
+        (max - 3..=max + 3).for_each(&mut check);
+        [RUST_MAX_SIZE, 1 << 32, 1 << 63, u64::MAX]
             .into_iter()
             .for_each(&mut check);
 
         for case in 0..plan.count {
             check(match case % 4 {
                 0 => random.of_any_length(64),
-                _ => 1 + random.below(MAX_SIZE),
+                _ => 1 + random.below(max),
             });
         }
 
-        if !plan.short && form == Form::Fixed {
-            (1..=MAX_SIZE).for_each(&mut check);
+        if !plan.short && !matches!(form, Form::Sized(_)) {
+            (1..=max).for_each(&mut check);
         }
+        self.written_down::<R>(form);
         self.seek_from_one::<R>(form);
+    }
+
+    /// Totals that are written down: the one that is sought and the Rust's have to be these.
+    fn written_down<R: Values>(&mut self, form: Form) {
+        for (size, written) in written_down(R::PAGE_SIZE) {
+            if totals::<R>(*size) != *written {
+                let text = || format!("{form}, size {size}: the totals are {written:?}");
+                self.report.disagree(*size, text);
+            }
+            self.check::<R>(form, *size);
+        }
     }
 
     /// The new total of small sizes, sought from 1 up: it never falls as sizes rise.
@@ -149,7 +172,7 @@ impl<L: Fn(Form, u64) -> Reply> Comparison<'_, L> {
 }
 
 fn expected<R: Values>(size: u64) -> Reply {
-    if !(1..=MAX_SIZE).contains(&size) {
+    if !(1..=max_size(R::PAGE_SIZE)).contains(&size) {
         return Reply::refusal(SIZE_REFUSED, &[]);
     }
     let total = new_total::<R>(size);
@@ -180,6 +203,31 @@ fn spare_room(body: u64, total: u64, size: u64) -> Option<u64> {
     (body * total).checked_sub(size + numbers)
 }
 
+/// Some sizes with their totals, the new one and the old one: at 4,096 bytes those of the documents, for
+/// the panel what comes out by their rules.
+fn written_down(page_size: usize) -> &'static [(u64, [u64; 2])] {
+    match page_size {
+        4096 => &[
+            (61_380, [15, 15]),
+            (61_381, [16, 16]),
+            (65_468, [16, 16]),
+            (65_469, [17, 17]),
+            (4_243_402, [1038, 1038]),
+            (4_243_403, [1038, 1039]),
+            (4_243_404, [1038, 1039]),
+            (1 << 29, [131_329, 131_329]),
+        ],
+        PANEL => &[
+            (15_300, [15, 15]),
+            (15_301, [16, 16]),
+            (16_317, [17, 17]),
+            (274_379, [270, 271]),
+            (1 << 20, [1033, 1033]),
+        ],
+        _ => &[],
+    }
+}
+
 /// How many lines are recorded of sizes like this, and what these are called.
 fn recorded<R: Values>(size: u64) -> (usize, &'static str) {
     const SAMPLES: [u64; 11] = [
@@ -192,10 +240,10 @@ fn recorded<R: Values>(size: u64) -> (usize, &'static str) {
         4_243_403,
         4_243_404,
         4_243_405,
-        MAX_SIZE - 1,
-        MAX_SIZE,
+        max_size(4096) - 1,
+        max_size(4096),
     ];
-    let inside = (2..MAX_SIZE).contains(&size);
+    let inside = (2..max_size(4096)).contains(&size);
     let changes = inside
         && [size - 1, size + 1]
             .into_iter()

@@ -1,5 +1,5 @@
-//! Values: writing their pages and cells, reading and deleting them; and page lookup. All but cells
-//! at several page sizes.
+//! Values: writing their pages and cells, reading and deleting them; and page lookup, at several page
+//! sizes.
 //!
 //! What stands on a page and in a cell comes from the Rust, and so does what the pages leave, which
 //! `total` has to tell; but where the new total is not the Rust's, the pages come from a model of the
@@ -86,6 +86,8 @@ pub fn compare(plan: &Plan, library: &dyn Library) -> io::Result<[Report; 8]> {
     comparison.page_sizes();
     // libmopsienna comes first, so that the first case of a kind is at its page size.
     comparison.at::<nomt_4096::Plain>(Form::Fixed, extent, seed, cases / 10)?;
+    comparison.at::<nomt_1024::Plain>(Form::Panel, extent, seed, cases / 5)?;
+    largest::one_more::<nomt_1024::Plain>(&mut comparison, Form::Panel)?;
     comparison.small::<nomt_16::Plain>(16, extent, seed, cases)?;
     if extent == Extent::Least {
         return Ok(comparison.finish(REPLIES));
@@ -94,12 +96,13 @@ pub fn compare(plan: &Plan, library: &dyn Library) -> io::Result<[Report; 8]> {
     comparison.small::<nomt_24::Plain>(24, extent, seed, cases)?;
     comparison.small::<nomt_28::Plain>(28, extent, seed, cases)?;
     comparison.small::<nomt_32::Plain>(32, extent, seed, cases)?;
-    comparison.at::<nomt_1024::Plain>(Form::Sized(1024), extent, seed, cases / 5)?;
+    comparison.at::<nomt_1024::Plain>(Form::Sized(1024), Extent::Least, seed, cases / 50)?;
     comparison.at::<nomt_4096::Plain>(Form::Sized(4096), Extent::Least, seed, cases / 50)?;
+    let random = &mut Random::new(seed);
+    largest::largest::<nomt_1024::Plain>(&mut comparison, Form::Panel, random)?;
     if extent == Extent::Long {
-        let mut random = Random::new(seed);
-        largest::largest::<nomt_4096::Plain>(&mut comparison, Form::Fixed, &mut random)?;
-        largest::one_more::<nomt_4096::Plain>(&mut comparison)?;
+        largest::largest::<nomt_4096::Plain>(&mut comparison, Form::Fixed, random)?;
+        largest::one_more::<nomt_4096::Plain>(&mut comparison, Form::Fixed)?;
     }
     Ok(comparison.finish(REPLIES))
 }
@@ -193,7 +196,7 @@ impl<'a> Comparison<'a> {
         }
         self.group = format!("{form}, any pages");
         chains::tangles::<R>(self, form, &mut random, cases)?;
-        cells::each::<R>(self, &mut random, cases);
+        cells::each::<R>(self, form, &mut random, cases);
         lookups::fixed::<R>(self, form)?;
         lookups::random::<R>(self, form, &mut random, 10 * cases)
     }

@@ -31,6 +31,9 @@ const SIZES: [(usize, u64, u64, u64); 7] = [
     (4096, 80, 120, 30),
 ];
 
+/// The page sizes at which saves are harmed: the least, and that of the small panel.
+const HARMED: [usize; 2] = [16, 1024];
+
 struct Options {
     short: bool,
     seed: u64,
@@ -87,15 +90,17 @@ fn self_test(seed: u64) -> bool {
     ];
     let mut caught = true;
     for (harm, name) in harms {
-        let plan = Plan {
-            form: Form::at(16),
-            saves: 60,
-            cuts: 20,
-            harm,
-        };
-        let tally = run(&plan, seed);
-        println!("{name}: {tally}");
-        caught &= tally.lost > 0;
+        for size in HARMED {
+            let plan = Plan {
+                form: Form::at(size),
+                saves: 60,
+                cuts: 20,
+                harm,
+            };
+            let tally = run(&plan, seed);
+            println!("page size {size}, {name}: {tally}");
+            caught &= tally.lost > 0;
+        }
     }
     println!(
         "self-test: {}",

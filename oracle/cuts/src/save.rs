@@ -242,7 +242,7 @@ impl<'a> Open<'a> {
                 bytes: page,
             });
         }
-        let cell = cell(size, &numbers);
+        let cell = cell(form, size, &numbers);
         Value {
             cell,
             numbers,

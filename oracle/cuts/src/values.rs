@@ -1,6 +1,6 @@
 //! How many pages a value takes, by the old total and by the new one, and its cell.
 
-use mopsienna_sys::values::encode_cell;
+use mopsienna_sys::Form;
 
 /// How many numbers go to a cell.
 const IN_CELL: usize = 15;
@@ -26,11 +26,11 @@ pub fn new_total(page_size: usize, size: usize) -> usize {
 }
 
 /// The cell of a value with these pages.
-pub fn cell(size: usize, numbers: &[u32]) -> Vec<u8> {
+pub fn cell(form: Form, size: usize, numbers: &[u32]) -> Vec<u8> {
     let first = &numbers[..numbers.len().min(IN_CELL)];
     let mut cell = vec![0; 40 + 4 * first.len()];
     let hash = [size as u8; 32];
-    let reply = encode_cell(size as u64, &hash, first, &mut cell);
+    let reply = form.encode_cell(size as u64, &hash, first, &mut cell);
     assert_eq!(reply.number, 0, "a cell of a value's numbers is written");
     cell
 }

@@ -1,4 +1,5 @@
-//! The functions of values and cells, and of page lookup. Cells are the same at all page sizes.
+//! The functions of values and cells, and of page lookup. Cells are the same at all page sizes, but for
+//! the largest value.
 //!
 //! Writing a page and writing a cell give nothing but a number; the places of their replies are
 //! never touched.
@@ -12,20 +13,6 @@ use super::{
 pub type Hash = [u8; 32];
 
 extern "C" {
-    fn mopsienna_encode_cell(
-        size: u64,
-        hash: &Hash,
-        numbers: *const u32,
-        numbers_len: usize,
-        cell: *mut u8,
-        cell_len: usize,
-    ) -> u32;
-    fn mopsienna_decode_cell(
-        cell: *const u8,
-        cell_len: usize,
-        hash: &mut Hash,
-        out: &mut Out,
-    ) -> u32;
     fn sized_write_old_value_page(
         words: u64,
         value: *const u8,
@@ -48,6 +35,15 @@ in_both! {
         page: *mut u8,
         page_len: usize,
     ) -> u32;
+    fn encode_cell(
+        size: u64,
+        hash: &[u8; 32],
+        numbers: *const u32,
+        numbers_len: usize,
+        cell: *mut u8,
+        cell_len: usize,
+    ) -> u32;
+    fn decode_cell(cell: *const u8, cell_len: usize, hash: &mut [u8; 32], out: &mut Out) -> u32;
     fn read_value(
         cell: *const u8,
         cell_len: usize,
@@ -80,36 +76,7 @@ in_both! {
     ) -> u32;
 }
 
-/// Writes a cell to the start of the cell buffer.
-#[inline]
-pub fn encode_cell(size: u64, hash: &Hash, numbers: &[u32], cell: &mut [u8]) -> Reply {
-    // SAFETY: the function reads only the hash and the numbers, and writes only to the buffer.
-    Reply::of(|_| unsafe {
-        mopsienna_encode_cell(
-            size,
-            hash,
-            numbers.as_ptr(),
-            numbers.len(),
-            cell.as_mut_ptr(),
-            cell.len(),
-        )
-    })
-}
-
-/// Reads a cell's hash. Answers the value's size and how many numbers the cell has.
-pub fn decode_cell(cell: &[u8], hash: &mut Hash) -> Reply {
-    Reply::of(|out| decode_cell_into(cell, hash, out))
-}
-
-/// The same into places that are there already: 0 or the refusal's number.
-#[inline]
-pub fn decode_cell_into(cell: &[u8], hash: &mut Hash, out: &mut Out) -> u32 {
-    // SAFETY: the function reads only the cell, and writes only to the hash and to the eight places
-    // of `out`.
-    unsafe { mopsienna_decode_cell(cell.as_ptr(), cell.len(), hash, out) }
-}
-
-/// Values and page lookup, inlined too.
+/// Values, cells and page lookup, inlined too.
 impl Form {
     /// Writes one page of a value to the start of the page buffer.
     #[inline]
@@ -160,6 +127,39 @@ impl Form {
                 page.len(),
             )
         })
+    }
+
+    /// Writes a cell to the start of the cell buffer.
+    #[inline]
+    pub fn encode_cell(self, size: u64, hash: &Hash, numbers: &[u32], cell: &mut [u8]) -> Reply {
+        // SAFETY: the function reads only the hash and the numbers, and writes only to the buffer.
+        Reply::of(|_| unsafe {
+            call!(
+                self,
+                encode_cell(
+                    size,
+                    hash,
+                    numbers.as_ptr(),
+                    numbers.len(),
+                    cell.as_mut_ptr(),
+                    cell.len(),
+                )
+            )
+        })
+    }
+
+    /// Reads a cell's hash. Answers the value's size and how many numbers the cell has.
+    #[inline]
+    pub fn decode_cell(self, cell: &[u8], hash: &mut Hash) -> Reply {
+        Reply::of(|out| self.decode_cell_into(cell, hash, out))
+    }
+
+    /// The same into places that are there already: 0 or the refusal's number.
+    #[inline]
+    pub fn decode_cell_into(self, cell: &[u8], hash: &mut Hash, out: &mut Out) -> u32 {
+        // SAFETY: the function reads only the cell, and writes only to the hash and to the eight places
+        // of `out`.
+        unsafe { call!(self, decode_cell(cell.as_ptr(), cell.len(), hash, out)) }
     }
 
     /// Reads a value by its cell. Answers its size and how many numbers were found.

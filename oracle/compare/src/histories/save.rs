@@ -107,7 +107,9 @@ impl<R: Values> Open<R> {
             comparison.count(Event::APageLess);
             let values = &mut comparison.values;
             let in_cell = &numbers[..CELL_NUMBERS];
-            Some(written::compare_cell::<R>(values, size, in_cell, random))
+            Some(written::compare_cell::<R>(
+                values, form, size, in_cell, random,
+            ))
         };
 
         comparison.count(Event::Written);

@@ -1,4 +1,4 @@
-//! Lists in small stores, at small page sizes, and some at 4,096 bytes. They are recorded too.
+//! Lists in small stores, at small page sizes, and some at 1,024 and at 4,096 bytes. They are recorded too.
 
 use super::{expected, model, Comparison, Room};
 use crate::{
@@ -13,9 +13,10 @@ use nomt_plain::{List, Rust};
 use std::io;
 
 /// There is one list at each small page size for so many random cases of other operations, and fewer at
-/// 4,096 bytes; but as many as these where they are recorded.
+/// 1,024 and at 4,096 bytes; but as many as these where they are recorded.
 const SHARE: u64 = 100;
 const RECORDED: u64 = 4000;
+const PANEL_SHARE: u64 = 4;
 const LARGE_SHARE: u64 = 40;
 
 /// Stores of pages like these have only a few of them, so that a line that is recorded is not too long.
@@ -29,15 +30,17 @@ pub(super) fn each(plan: &Plan, comparison: &mut Comparison) -> io::Result<()> {
     } else {
         plan.count / SHARE
     };
-    at::<nomt_16::Plain>(plan, comparison, lists)?;
-    at::<nomt_20::Plain>(plan, comparison, lists)?;
-    at::<nomt_24::Plain>(plan, comparison, lists)?;
-    at::<nomt_28::Plain>(plan, comparison, lists)?;
-    at::<nomt_32::Plain>(plan, comparison, lists)?;
-    at::<nomt_4096::Plain>(plan, comparison, lists / LARGE_SHARE)
+    at::<nomt_16::Plain>(plan, comparison, Form::Sized(16), lists)?;
+    at::<nomt_20::Plain>(plan, comparison, Form::Sized(20), lists)?;
+    at::<nomt_24::Plain>(plan, comparison, Form::Sized(24), lists)?;
+    at::<nomt_28::Plain>(plan, comparison, Form::Sized(28), lists)?;
+    at::<nomt_32::Plain>(plan, comparison, Form::Sized(32), lists)?;
+    at::<nomt_1024::Plain>(plan, comparison, Form::Panel, lists / PANEL_SHARE)?;
+    let large = lists / LARGE_SHARE;
+    at::<nomt_4096::Plain>(plan, comparison, Form::Sized(4096), large)
 }
 
-fn at<R: Rust>(plan: &Plan, comparison: &mut Comparison, lists: u64) -> io::Result<()> {
+fn at<R: Rust>(plan: &Plan, comparison: &mut Comparison, form: Form, lists: u64) -> io::Result<()> {
     let mut random = Random::new(plan.seed);
     for list in 0..lists {
         let most_pages = 1 + u64::from((list + 1).ilog2() / 2);
@@ -64,7 +67,7 @@ fn at<R: Rust>(plan: &Plan, comparison: &mut Comparison, lists: u64) -> io::Resu
             0 => cut as u32 % 9,
             _ => counts.len() as u32,
         };
-        one::<R>(plan, comparison, &store, head, &mut random)?;
+        one::<R>(plan, comparison, form, &store, head, &mut random)?;
     }
     Ok(())
 }
@@ -112,6 +115,7 @@ fn fill<R: Rust>(store: &mut [u8], counts: &[usize], random: &mut Random) {
 fn one<R: Rust>(
     plan: &Plan,
     comparison: &mut Comparison,
+    form: Form,
     store: &Store,
     head: u32,
     random: &mut Random,
@@ -141,7 +145,6 @@ fn one<R: Rust>(
         entries: any_room(entry_count, random),
         map: any_room(map::in_use(model.bits), random),
     };
-    let form = Form::Sized(R::PAGE_SIZE as u64);
     comparison.check_library(form, store.bytes(), head, &model, room, text);
 
     let (reply, tables) = expected(&model, room);

@@ -9,10 +9,7 @@ use crate::{
         Linked, DECODE, DELETE, ENCODE, LOOKUP, READ, TOTAL,
     },
 };
-use mopsienna_sys::{
-    values::{decode_cell, encode_cell, Hash},
-    Form, Lent, Reply, Save,
-};
+use mopsienna_sys::{values::Hash, Form, Lent, Reply, Save};
 use std::{
     cell::{Cell, RefCell},
     collections::BTreeMap,
@@ -24,9 +21,10 @@ pub struct Changed {
     operation: usize,
     change: Option<(u64, usize)>,
     calls: Cell<u64>,
-    /// For each number that a call of the operation gives, the first such call that was lent
-    /// places of everything; of totals, the first with more pages than a cell has numbers for.
-    pub first: RefCell<BTreeMap<u32, u64>>,
+    /// For each number that a call of the operation gives, in the panel's form and in any other, the first
+    /// such call that was lent places of everything; of totals, the first with more pages than a cell has
+    /// numbers for.
+    pub first: RefCell<BTreeMap<(bool, u32), u64>>,
 }
 
 impl Changed {
@@ -44,6 +42,7 @@ impl Changed {
     fn pass(
         &self,
         operation: usize,
+        form: Form,
         reply: Reply,
         wanted: bool,
         change: impl FnOnce(usize),
@@ -53,7 +52,8 @@ impl Changed {
         }
         let call = self.calls.replace(self.calls.get() + 1);
         if wanted {
-            self.first.borrow_mut().entry(reply.number).or_insert(call);
+            let kind = (form == Form::Panel, reply.number);
+            self.first.borrow_mut().entry(kind).or_insert(call);
         }
         match self.change.filter(|change| change.0 == call) {
             Some((_, part)) if part < PARTS => changed_if(true, part, reply),
@@ -78,7 +78,7 @@ impl saves::Library for Changed {
     ) -> Reply {
         let reply = form.read_list(store, head, pages, entries, map);
         let places = !pages.is_empty() && !entries.is_empty() && !map.is_empty();
-        self.pass(READ_BACK, reply, places, |part| match part {
+        self.pass(READ_BACK, form, reply, places, |part| match part {
             0 | 1 => change_end(pages, part),
             2 | 3 => change_end(entries, part),
             _ => change_end(map, part),
@@ -87,7 +87,7 @@ impl saves::Library for Changed {
 
     fn hand_out(&self, form: Form, save: &Save, pages: &[u32], entries: &[u32]) -> Reply {
         let reply = form.hand_out(save, pages, entries);
-        self.pass(HAND_OUT, reply, true, |_| ())
+        self.pass(HAND_OUT, form, reply, true, |_| ())
     }
 
     fn finish(&self, form: Form, save: &Save, freed: &[u32], lent: &mut Lent) -> Reply {
@@ -100,7 +100,7 @@ impl saves::Library for Changed {
             lent.map.len(),
         ];
         let places = !lengths.contains(&0);
-        self.pass(FINISH, reply, places, |part| match part {
+        self.pass(FINISH, form, reply, places, |part| match part {
             0 | 1 => change_end(&mut lent.pages, part),
             2 | 3 => change_end(&mut lent.entries, part),
             4 | 5 => change_end(&mut lent.buffer, part),
@@ -114,7 +114,7 @@ impl values::Library for Changed {
     fn total(&self, form: Form, size: u64) -> Reply {
         let reply = form.total(size);
         let past_cell = reply.out[0] > CELL_NUMBERS as u64;
-        self.pass(TOTAL, reply, past_cell, |_| ())
+        self.pass(TOTAL, form, reply, past_cell, |_| ())
     }
 
     fn write_value_page(
@@ -127,21 +127,32 @@ impl values::Library for Changed {
         page: &mut [u8],
     ) -> Reply {
         let reply = Linked.write_value_page(form, writer, value, numbers, index, page);
-        self.pass(values::write(writer), reply, !page.is_empty(), |part| {
-            change_end(page, part)
-        })
+        self.pass(
+            values::write(writer),
+            form,
+            reply,
+            !page.is_empty(),
+            |part| change_end(page, part),
+        )
     }
 
-    fn encode_cell(&self, size: u64, hash: &Hash, numbers: &[u32], cell: &mut [u8]) -> Reply {
-        let reply = encode_cell(size, hash, numbers, cell);
-        self.pass(ENCODE, reply, !cell.is_empty(), |part| {
+    fn encode_cell(
+        &self,
+        form: Form,
+        size: u64,
+        hash: &Hash,
+        numbers: &[u32],
+        cell: &mut [u8],
+    ) -> Reply {
+        let reply = form.encode_cell(size, hash, numbers, cell);
+        self.pass(ENCODE, form, reply, !cell.is_empty(), |part| {
             change_end(cell, part)
         })
     }
 
-    fn decode_cell(&self, cell: &[u8], hash: &mut Hash) -> Reply {
-        let reply = decode_cell(cell, hash);
-        self.pass(DECODE, reply, true, |part| change_end(hash, part))
+    fn decode_cell(&self, form: Form, cell: &[u8], hash: &mut Hash) -> Reply {
+        let reply = form.decode_cell(cell, hash);
+        self.pass(DECODE, form, reply, true, |part| change_end(hash, part))
     }
 
     fn read_value(
@@ -154,7 +165,7 @@ impl values::Library for Changed {
     ) -> Reply {
         let reply = form.read_value(cell, store, numbers, value);
         let places = !numbers.is_empty() && !value.is_empty();
-        self.pass(READ, reply, places, |part| match part {
+        self.pass(READ, form, reply, places, |part| match part {
             0 | 1 => change_end(numbers, part),
             _ => change_end(value, part),
         })
@@ -163,7 +174,9 @@ impl values::Library for Changed {
     fn delete_value(&self, form: Form, cell: &[u8], store: &[u8], numbers: &mut [u32]) -> Reply {
         let reply = form.delete_value(cell, store, numbers);
         let places = !numbers.is_empty();
-        self.pass(DELETE, reply, places, |part| change_end(numbers, part))
+        self.pass(DELETE, form, reply, places, |part| {
+            change_end(numbers, part)
+        })
     }
 
     fn lookup(
@@ -175,7 +188,7 @@ impl values::Library for Changed {
         page: u32,
     ) -> Reply {
         let reply = form.lookup(numbers, pending, store, page);
-        self.pass(LOOKUP, reply, true, |_| ())
+        self.pass(LOOKUP, form, reply, true, |_| ())
     }
 }
 

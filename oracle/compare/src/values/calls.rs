@@ -166,12 +166,19 @@ impl Comparison<'_> {
     }
 
     /// Writing a cell to a buffer of so many bytes. Where the Rust panics, the model has to refuse.
-    pub fn encode<R: Values>(&mut self, size: u64, hash: &Hash, numbers: &[u32], length: usize) {
+    pub fn encode<R: Values>(
+        &mut self,
+        form: Form,
+        size: u64,
+        hash: &Hash,
+        numbers: &[u32],
+        length: usize,
+    ) {
         let text = || {
-            let numbers = numbers_text(numbers);
-            format!("size {size}, {numbers}, buffer of {length}")
+            let (page, numbers) = (R::PAGE_SIZE, numbers_text(numbers));
+            format!("page size {page}, size {size}, {numbers}, buffer of {length}")
         };
-        let refusal = model::encode_cell(size, numbers.len(), length);
+        let refusal = model::encode_cell(R::PAGE_SIZE, size, numbers.len(), length);
         let rust = unless_panic(|| R::encode_cell(size, *hash, numbers));
         if refusal
             .as_ref()
@@ -198,17 +205,17 @@ impl Comparison<'_> {
             _ => 0,
         };
         let most = if written > 0 { 60 } else { 6 };
-        self.recorder
-            .keep(most, String::new(), numbers.len() + length, || {
-                Line::new(Kind::EncodeCell)
-                    .number(size)
-                    .array(hash)
-                    .array(numbers)
-                    .length(&expected)
-                    .status(&expected_reply)
-                    .places(&expected, written)
-            });
-        let reply = self.library.encode_cell(size, hash, numbers, &mut got);
+        self.keep_cell::<R>(most, numbers.len() + length, || {
+            Line::new(Kind::EncodeCell)
+                .number(size)
+                .array(hash)
+                .array(numbers)
+                .length(&expected)
+                .status(&expected_reply)
+                .places(&expected, written)
+        });
+        let library = self.library;
+        let reply = library.encode_cell(form, size, hash, numbers, &mut got);
         let same = got == expected;
         self.reports[ENCODE].compare(&expected_reply, &reply, same, || {
             format!("{}{}", text(), difference("cell", &expected, &got))
@@ -216,17 +223,18 @@ impl Comparison<'_> {
     }
 
     /// Reading a cell.
-    pub fn decode<R: Values>(&mut self, cell: &[u8]) {
+    pub fn decode<R: Values>(&mut self, form: Form, cell: &[u8]) {
         let text = || {
             format!(
-                "cell of {} bytes: {:?}",
+                "page size {}, cell of {} bytes: {:?}",
+                R::PAGE_SIZE,
                 cell.len(),
                 &cell[..cell.len().min(8)]
             )
         };
         let rust = unless_panic(|| R::decode_cell(cell));
         let mut expected = UNTOUCHED_HASH;
-        let expected_reply = match (model::decode_cell(cell), rust) {
+        let expected_reply = match (model::decode_cell(R::PAGE_SIZE, cell), rust) {
             (Ok(model), Some(rust)) if model == rust => {
                 expected = rust.hash;
                 Reply::answer(&[rust.size, rust.numbers.len() as u64])
@@ -245,17 +253,25 @@ impl Comparison<'_> {
         };
         let read = expected_reply.number == 0;
         let most = if read { 60 } else { 6 };
-        self.recorder.keep(most, String::new(), cell.len(), || {
+        self.keep_cell::<R>(most, cell.len(), || {
             Line::new(Kind::DecodeCell)
                 .array(cell)
                 .reply(&expected_reply)
                 .places(&expected, if read { expected.len() } else { 0 })
         });
         let mut hash = UNTOUCHED_HASH;
-        let reply = self.library.decode_cell(cell, &mut hash);
+        let reply = self.library.decode_cell(form, cell, &mut hash);
         self.reports[DECODE].compare(&expected_reply, &reply, hash == expected, || {
             format!("{}{}", text(), difference("hash", &expected, &hash))
         });
+    }
+
+    /// Keeps a call on a cell. Its line has no page size and stands for all but the panel's, where the
+    /// largest value is another.
+    fn keep_cell<R: Values>(&self, most: usize, lent: usize, line: impl FnOnce() -> Line) {
+        if R::PAGE_SIZE != model::PANEL {
+            self.recorder.keep(most, String::new(), lent, line);
+        }
     }
 }
 

@@ -5,7 +5,7 @@ use super::{
         distinct, Case,
         Harm::{self, Byte, Bytes, Cell, Empty, Length, More, Number, Numbers, Size, Zero},
     },
-    model::{differing, last_size, new_total, old_total, page_count, CELL_NUMBERS, TOO_LARGE},
+    model::{differing, last_size, new_total, old_total, page_count, too_large, CELL_NUMBERS},
     Comparison, Extent,
 };
 use common::Random;
@@ -151,7 +151,8 @@ fn any_harm(
         0 => {
             let size = size as u64;
             let any = random.below(2 * size + 2);
-            Size(random.pick(&[0, size - 1, size + 1, size + body, any, any, TOO_LARGE]))
+            let too_large = too_large(page_size);
+            Size(random.pick(&[0, size - 1, size + 1, size + body, any, any, too_large]))
         }
         1 => {
             let any = random.below(120) as usize;

@@ -6,7 +6,7 @@ use super::{
         Harm::{self, Bytes, Cell, Empty, Length, More, Number, Numbers, Size, Zero},
         Laid,
     },
-    model::{differing, last_size, new_total, old_total, CELL_NUMBERS, MAX_SIZE, TOO_LARGE},
+    model::{differing, last_size, new_total, old_total, too_large, CELL_NUMBERS},
     Comparison, Extent,
 };
 use common::Random;
@@ -54,6 +54,7 @@ pub fn each<R: Values>(comparison: &mut Comparison, form: Form, extent: Extent) 
 fn on_one_page(page: usize) -> Vec<Vec<Harm>> {
     let body = page as u16 - 4;
     let all_numbers = body / 4;
+    let too_large = too_large(page);
     let mut cases = vec![
         vec![],
         // Cells too short, of no multiple of 4, and with more numbers than the total.
@@ -64,7 +65,7 @@ fn on_one_page(page: usize) -> Vec<Vec<Harm>> {
         vec![More(2), More(u32::MAX)],
         // Sizes that no value has, and others than the page's.
         vec![Size(0)],
-        vec![Size(TOO_LARGE)],
+        vec![Size(too_large)],
         vec![Size(1 << 32)],
         vec![Size(u64::MAX)],
         vec![Size(2)],
@@ -72,7 +73,7 @@ fn on_one_page(page: usize) -> Vec<Vec<Harm>> {
         vec![Size(u64::from(body) + 1)],
         vec![Size(u64::from(body) * 15 + 1)],
         vec![Size(1 << 22)],
-        vec![Size(MAX_SIZE as u64)],
+        vec![Size(too_large - 1)],
         // The page lies past the store.
         vec![Length(page)],
         vec![Length(2 * page - 1)],
@@ -104,7 +105,7 @@ fn on_one_page(page: usize) -> Vec<Vec<Harm>> {
         vec![Numbers(0, (1 << 14) - 1), Bytes(0, 4)],
         // The order of refusals.
         vec![Cell(45), Size(0)],
-        vec![Cell(40), Size(TOO_LARGE)],
+        vec![Cell(40), Size(too_large)],
         vec![Size(0), Length(0)],
         vec![Length(0), Bytes(0, body + 1)],
         vec![Length(page), More(1)],
@@ -117,6 +118,8 @@ fn on_one_page(page: usize) -> Vec<Vec<Harm>> {
         vec![Bytes(0, 0), Numbers(0, 1)],
     ];
     cases.extend((0..=49).map(|length| vec![Cell(length)]));
+    let near = (too_large - 4..too_large - 1).chain(too_large + 1..=too_large + 2);
+    cases.extend(near.map(|size| vec![Size(size)]));
     cases
 }
 

@@ -1,14 +1,15 @@
-//! The largest value, and one byte more.
+//! The largest value at a page size, and one byte more.
 
 use super::{
     calls::Writing,
-    case::any_hash,
-    model::{self, Writer, MAX_SIZE},
+    case::{any_hash, Case},
+    model::{self, max_size, Writer},
     Comparison, DELETE, READ, WRITE,
 };
 use crate::panics::unless_panic;
 use common::{Random, Store};
 use mopsienna_sys::{Form, Reply};
+use nomt_4096::beatree::leaf::node::MAX_OVERFLOW_VALUE_SIZE;
 use nomt_plain::Values;
 use std::io;
 
@@ -18,21 +19,22 @@ pub fn largest<R: Values>(
     form: Form,
     random: &mut Random,
 ) -> io::Result<()> {
+    let size = max_size(R::PAGE_SIZE);
     // It is the same by both totals.
-    let total = model::new_total(R::PAGE_SIZE, MAX_SIZE);
+    let total = model::new_total(R::PAGE_SIZE, size);
     // The pages lie about in the store: 7 has no common divisor with the count.
     let page_count = (total + 1).next_multiple_of(7) + 1;
     let numbers: Vec<u32> = (1..=total)
         .map(|page| (7 * page % page_count) as u32)
         .collect();
-    let mut value = vec![0; MAX_SIZE];
+    let mut value = vec![0; size];
     random.fill(&mut value);
     let hash = any_hash(random);
     let mut store = Store::new(page_count * R::PAGE_SIZE)?;
 
     let chunked = R::chunk(&value, &numbers)?;
-    let cell = R::encode_cell(MAX_SIZE as u64, hash, &chunked.cell);
-    comparison.total::<R>(form, MAX_SIZE, &chunked.pages, &chunked);
+    let cell = R::encode_cell(size as u64, hash, &chunked.cell);
+    comparison.total::<R>(form, size, &chunked.pages, &chunked);
     for (index, (page, bytes)) in chunked.pages.iter().enumerate() {
         for writer in [Writer::New, Writer::Old] {
             let writing = Writing {
@@ -55,10 +57,10 @@ pub fn largest<R: Values>(
         comparison.reports[DELETE].disagree_at_call("the Rust deletes something else", text);
     }
     let mut table = vec![0; total];
-    let mut got = vec![0; MAX_SIZE];
+    let mut got = vec![0; size];
     let library = comparison.library;
     let reply = library.read_value(form, &cell, store.bytes(), &mut table, &mut got);
-    let expected = Reply::answer(&[MAX_SIZE as u64, total as u64]);
+    let expected = Reply::answer(&[size as u64, total as u64]);
     let same = got == value && table == numbers;
     comparison.reports[READ].compare(&expected, &reply, same, text);
     table.fill(0);
@@ -68,12 +70,12 @@ pub fn largest<R: Values>(
     Ok(())
 }
 
-/// What the Rust does with a value of one byte more.
-pub fn one_more<R: Values>(comparison: &mut Comparison) -> io::Result<()> {
-    let size = MAX_SIZE + 1;
-    let total = model::old_total(R::PAGE_SIZE, size) as u32;
+/// What the Rust does with a value of one byte more, which the library refuses.
+pub fn one_more<R: Values>(comparison: &mut Comparison, form: Form) -> io::Result<()> {
+    let size = max_size(R::PAGE_SIZE) + 1;
+    let total = model::old_total(R::PAGE_SIZE, size);
     let value = vec![0; size];
-    let numbers: Vec<u32> = (1..=total).collect();
+    let numbers: Vec<u32> = (1..=total as u32).collect();
     let chunked = unless_panic(|| R::chunk(&value, &numbers)).transpose()?;
     let does = match chunked {
         Some(_) => "writes it",
@@ -82,5 +84,19 @@ pub fn one_more<R: Values>(comparison: &mut Comparison) -> io::Result<()> {
     comparison.reports[WRITE].class(model::SIZE, does, || {
         format!("page size {}, size {size}", R::PAGE_SIZE)
     });
+    for writer in [Writer::New, Writer::Old] {
+        let writing = Writing {
+            writer,
+            value: &value,
+            numbers: &numbers,
+        };
+        comparison.write::<R>(form, writing, 0, R::PAGE_SIZE, &[]);
+    }
+    // Where the Rust's own limit is larger, it reads and deletes the value too.
+    if size <= MAX_OVERFLOW_VALUE_SIZE {
+        comparison.group = format!("{form}, a byte more than the largest");
+        let case = Case::written::<R>((total + 1) * R::PAGE_SIZE, size, &numbers, &[])?;
+        comparison.check::<R>(form, &case)?;
+    }
     Ok(())
 }

@@ -1,10 +1,7 @@
-//! The library's functions of values and of page lookup, with and without a page size.
+//! The library's functions of values and of page lookup, in any form.
 
 use super::model::Writer;
-use mopsienna_sys::{
-    values::{self as linked, Hash},
-    Form, Reply,
-};
+use mopsienna_sys::{values::Hash, Form, Reply};
 
 pub trait Library {
     fn total(&self, form: Form, size: u64) -> Reply;
@@ -19,9 +16,16 @@ pub trait Library {
         page: &mut [u8],
     ) -> Reply;
 
-    fn encode_cell(&self, size: u64, hash: &Hash, numbers: &[u32], cell: &mut [u8]) -> Reply;
+    fn encode_cell(
+        &self,
+        form: Form,
+        size: u64,
+        hash: &Hash,
+        numbers: &[u32],
+        cell: &mut [u8],
+    ) -> Reply;
 
-    fn decode_cell(&self, cell: &[u8], hash: &mut Hash) -> Reply;
+    fn decode_cell(&self, form: Form, cell: &[u8], hash: &mut Hash) -> Reply;
 
     fn read_value(
         &self,
@@ -61,12 +65,19 @@ impl Library for Linked {
         }
     }
 
-    fn encode_cell(&self, size: u64, hash: &Hash, numbers: &[u32], cell: &mut [u8]) -> Reply {
-        linked::encode_cell(size, hash, numbers, cell)
+    fn encode_cell(
+        &self,
+        form: Form,
+        size: u64,
+        hash: &Hash,
+        numbers: &[u32],
+        cell: &mut [u8],
+    ) -> Reply {
+        form.encode_cell(size, hash, numbers, cell)
     }
 
-    fn decode_cell(&self, cell: &[u8], hash: &mut Hash) -> Reply {
-        linked::decode_cell(cell, hash)
+    fn decode_cell(&self, form: Form, cell: &[u8], hash: &mut Hash) -> Reply {
+        form.decode_cell(cell, hash)
     }
 
     fn read_value(

@@ -17,9 +17,22 @@ pub const NUMBERS: u32 = 17;
 pub const BYTES: u32 = 18;
 pub const EMPTY: u32 = 25;
 
-/// The greatest size of a value.
-pub const MAX_SIZE: usize = 1 << 29;
-pub const TOO_LARGE: u64 = MAX_SIZE as u64 + 1;
+/// The small panel's page size.
+pub const PANEL: usize = 1024;
+
+/// The greatest size of a value: that of document 02's request Five at the panel's page size, else that of
+/// document 01.
+pub const fn max_size(page_size: usize) -> usize {
+    match page_size {
+        PANEL => 1 << 20,
+        _ => 1 << 29,
+    }
+}
+
+/// The least size that is too large.
+pub const fn too_large(page_size: usize) -> u64 {
+    max_size(page_size) as u64 + 1
+}
 
 /// How many numbers of pages go to a cell.
 pub const CELL_NUMBERS: usize = 15;
@@ -118,7 +131,7 @@ pub fn write(
     buffer: usize,
 ) -> Option<Reply> {
     let refused = |number| Some(Reply::refusal(number, &[]));
-    if value == 0 || value > MAX_SIZE {
+    if value == 0 || value > max_size(page_size) {
         return refused(SIZE);
     }
     let total = writer.total(page_size, value);
@@ -154,15 +167,15 @@ pub fn pages(page_size: usize, value: &[u8], numbers: &[u32]) -> Vec<(u32, Vec<u
 }
 
 /// The refusal of writing a cell, if it is refused.
-pub fn encode_cell(size: u64, numbers: usize, buffer: usize) -> Option<Reply> {
-    if size > MAX_SIZE as u64 {
+pub fn encode_cell(page_size: usize, size: u64, numbers: usize, buffer: usize) -> Option<Reply> {
+    if size >= too_large(page_size) {
         return Some(Reply::refusal(SIZE, &[]));
     }
     (buffer < CELL_START + 4 * numbers).then(|| Reply::refusal(ROOM, &[]))
 }
 
 /// What a cell holds, or its refusal.
-pub fn decode_cell(cell: &[u8]) -> Result<Cell, Reply> {
+pub fn decode_cell(page_size: usize, cell: &[u8]) -> Result<Cell, Reply> {
     if cell.len() < CELL_START + 4 || !cell.len().is_multiple_of(4) {
         return Err(Reply::refusal(CELL, &[]));
     }
@@ -173,7 +186,7 @@ pub fn decode_cell(cell: &[u8]) -> Result<Cell, Reply> {
         hash: std::array::from_fn(|at| hash[at]),
         numbers: numbers_in(numbers),
     };
-    if cell.size > MAX_SIZE as u64 {
+    if cell.size >= too_large(page_size) {
         return Err(Reply::refusal(SIZE, &[]));
     }
     Ok(cell)
@@ -212,7 +225,7 @@ pub fn delete(page_size: usize, cell: &[u8], store: &[u8]) -> Result<Walked, Rep
 }
 
 fn walk(page_size: usize, cell: &[u8], store: &[u8], deleting: bool) -> Result<Walked, Reply> {
-    let cell = decode_cell(cell)?;
+    let cell = decode_cell(page_size, cell)?;
     if cell.size == 0 {
         return Err(Reply::refusal(SIZE, &[]));
     }

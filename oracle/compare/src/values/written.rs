@@ -7,8 +7,8 @@ use super::{
     calls::Writing,
     case::{any_hash, distinct, Case},
     model::{
-        self, differing, first_filled, last_size, new_total, old_total, Writer, CELL_NUMBERS,
-        CELL_START,
+        self, differing, first_filled, last_size, max_size, new_total, old_total, Writer,
+        CELL_NUMBERS, CELL_START, PANEL,
     },
     Comparison, Extent, WRITE, WRITE_OLD,
 };
@@ -72,7 +72,7 @@ fn most_pages<R: Values>(extent: Extent) -> usize {
 
 /// The sizes around every change of the total, or, where pages are large and the run is short, around
 /// those at which the cell and the first page are filled with numbers; and around the first ones whose
-/// totals differ, in a long run also around later ones.
+/// totals differ, in a long run also around later ones. At the panel's page size there are the largest too.
 fn sizes<R: Values>(extent: Extent) -> Vec<usize> {
     let most = most_pages::<R>(extent);
     if R::PAGE_SIZE < 100 && extent != Extent::Least {
@@ -93,12 +93,18 @@ fn sizes<R: Values>(extent: Extent) -> Vec<usize> {
     }
     let differing_from: &[usize] = match (extent, R::PAGE_SIZE) {
         (Extent::Least, 100..) => &[],
+        // The panel's largest value has 1,033 pages.
+        (Extent::Long, PANEL) => &[1, 400, 700, 1_000],
         (Extent::Long, _) => &[1, 1_200, 1_500, 2_000],
         _ => &[1],
     };
     for pages in differing_from {
         let first = differing(R::PAGE_SIZE, *pages);
         sizes.extend(first - 1..=first + 2);
+    }
+    if R::PAGE_SIZE == PANEL && extent != Extent::Least {
+        let largest = max_size(PANEL);
+        sizes.extend(largest - 3..=largest);
     }
     sizes.sort();
     sizes.dedup();
@@ -189,7 +195,7 @@ pub fn compare<R: Values>(
         };
         compare_pages::<R>(comparison, form, writing, pages, random);
     }
-    Some(compare_cell::<R>(comparison, size, cell, random))
+    Some(compare_cell::<R>(comparison, form, size, cell, random))
 }
 
 /// The library's pages of a value by one total beside these, and pages that it refuses.
@@ -211,6 +217,7 @@ pub fn compare_pages<R: Values>(
 /// The library's cell of a value beside the Rust's, which is given.
 pub fn compare_cell<R: Values>(
     comparison: &mut Comparison,
+    form: Form,
     size: usize,
     numbers: &[u32],
     random: &mut Random,
@@ -218,10 +225,10 @@ pub fn compare_cell<R: Values>(
     let hash = any_hash(random);
     let length = CELL_START + 4 * numbers.len();
     for length in [length, length - 1, length + 1 + random.below(9) as usize] {
-        comparison.encode::<R>(size as u64, &hash, numbers, length);
+        comparison.encode::<R>(form, size as u64, &hash, numbers, length);
     }
     let cell = R::encode_cell(size as u64, hash, numbers);
-    comparison.decode::<R>(&cell);
+    comparison.decode::<R>(form, &cell);
     cell
 }
 
@@ -259,7 +266,7 @@ fn refused<R: Values>(
 /// Sizes that no value has, with every other fault beside them.
 fn no_value<R: Values>(comparison: &mut Comparison, form: Form) {
     // It is only as long as it looks: its bytes are never touched.
-    let too_long = vec![0; model::MAX_SIZE + 1];
+    let too_long = vec![0; max_size(R::PAGE_SIZE) + 1];
     for value in [&[][..], &too_long] {
         for (numbers, index, length) in [
             (&[][..], 0, R::PAGE_SIZE),
