@@ -8,8 +8,8 @@
  * `out` has eight places. A function fills the first ones as it says; the other places stay as they
  * were. A refusal that returns a value puts it into out[0]; where none is named, `out` is untouched.
  *
- * A page has 4,096 bytes and a number of 32 bits; number 0 is no page. mopsienna_panel.h has the same
- * functions for pages of 1,024 bytes.
+ * A page has 4,096 bytes and a number of 32 bits; number 0 is no page. mopsienna_panel.h has the
+ * functions, but for mopsienna_grow, once more for pages of 1,024 bytes.
  *
  * A slice is a pointer and a length. The pointer is not null, also where the length is 0, and is
  * aligned for its type; slices that are written overlap no other. Below, [0 .. n] are the places from

@@ -1,21 +1,21 @@
 /*
- * Mopsienna for stores with pages of 1,024 bytes, as the small panel keeps them. A function here does
- * what that of mopsienna.h does that has the same name without `panel_`: it takes the same arguments,
- * gives the same answers and refusals, and leaves the same places as they were. Its numbers are those
- * of its page size, for which mopsienna.h has those of 4,096 bytes:
+ * Mopsienna for stores with pages of 1,024 bytes, as the small panel keeps them. A function here is
+ * that of mopsienna.h which has the same name without `panel_`, for this page size: it takes the same
+ * arguments, fills the same places, and has the same refusals in the same order. Where mopsienna.h names
+ * a number of its page size, that of this one is meant:
  *
  *                                                 mopsienna.h     here
  *   bytes of a page                               4,096           1,024
  *   entries on a list page, at most               1,022           254
- *   entries under a head of one, or as many       1,021           253
+ *   under a head of one entry, at least           1,021           253
  *   bytes on a value page for numbers and value   4,092           1,020
  *   in the rule of the old total                  4,089, 4,088    1,017, 1,016
  *   numbers on a value page, at most              1,023           255
  *   the largest value (refusal 10 above it)       2^29            2^20
  *   the least size of which the totals differ     4,243,403       274,379
  *
- * The same at both sizes are the refusals and their order, numbers of 32 bits, 15 numbers in a cell,
- * MOPSIENNA_MAX_BUMP, and mopsienna_grow, which is for both.
+ * Where it names a function or MOPSIENNA_MAX_SIZE, the one here is meant. The same at both sizes are
+ * numbers of 32 bits, 15 numbers in a cell, MOPSIENNA_MAX_BUMP, and mopsienna_grow, which is for both.
  *
  * Nothing in a store or in a cell tells its page size. A host calls the functions of one size for a
  * store, and for its cells.

@@ -27,7 +27,8 @@ use Rattle.page.proofs.PagesLaws.{page_within_lem, length-page_at}
 use Rattle.free_list.specs.ListPages.{prev_of, count_of, entries_of, prev_within}
 use Rattle.free_list.specs.Shape.{FreeList}
 use Rattle.free_list.specs.Reading.{numbers_of, differing, list_from, read_list, ListSize, size_of, ListLent, list_lent_in, has_room, read_list_into}
-use Rattle.free_list.specs.Theorems.{ReadDiffers}
+use Rattle.free_list.specs.Theorems.{ReadDiffers, ReadShape}
+use Rattle.free_list.proofs.ShapeLaws.{read_accepted}
 use Rattle.bit_map.specs.BitMap.{has_bits, cleared}
 use Rattle.free_list.specs.Steps.{chain_from, chain_numbers, Readable}
 use Rattle.free_list.proofs.ListPagesLaws.{prev_within_lem}
@@ -177,3 +178,9 @@ read_tables_differ s store loose head lent after size e =
       once_different (numbers_of l) (all_different_once (numbers_of l) r.differs),
       λ x m. ⊎_elim (inside.0 x) (inside.1 x) (Memᴰ.append_cases l.pages m),
     )
+
+-- and what was read strictly has the shape
+pub read_shape : (s : ℕ) → ReadShape s
+read_shape s store head lent after size e =
+    let r = answered_read s store false head lent after size e in
+    rw (← r.told) (read_accepted s store head r.list r.reads).shape

@@ -1,8 +1,6 @@
 -- Every theorem at every page size, from the laws that prove it, and so at the two of the C interface. Assumes nothing.
-use Prim.Native.Nat.{ℕ}
-use Rattle.page.specs.PageSize.{IsPageSize}
 use Rattle.page.proofs.PageSizeLaws.{page-size, panel-size}
-use Rattle.free_list.proofs.RepeatsLaws.{read_tables_differ}
+use Rattle.free_list.proofs.RepeatsLaws.{read_shape, read_tables_differ}
 use Rattle.finisher.proofs.FinishedLaws.{finish_shape, finish_conserves, finish_differs}
 use Rattle.finisher.proofs.ReadBackLaws.{finished-reads}
 use Rattle.overflow.proofs.NewTotalLaws.{least, one_less}
@@ -10,15 +8,16 @@ use Rattle.overflow.proofs.WrittenLaws.{page_for_each, none_empty, never_empty, 
 use Rattle.overflow.proofs.SpareLaws.{spare_is_left, page_whole, bodies_whole}
 use Rattle.overflow.proofs.ReadBackLaws.{reads_back, deletes_all, one_total}
 use Rattle.overflow.proofs.DeleteLaws.{delete_knows}
-use Rattle.rollback.specs.Sizes.{Shown, AtBothSizes}
+use Rattle.rollback.specs.Sizes.{AtEverySize, AtBothSizes}
 use Rattle.rollback.proofs.RollbackLaws.{rollback}
 use Rattle.rollback.proofs.SeasonsLaws.{seasons_good, every_cut}
 use Rattle.rollback.proofs.HandedOutLaws.{read_hands_out, finish_hands_out}
 use Rattle.rollback.proofs.BridgeLaws.{code_runs, read_gets, read_opens, written-value, code_rollback}
 
-pub shown : {s : ℕ} → IsPageSize s → Shown s
-shown {s} size =
+pub at_every_size : AtEverySize
+at_every_size s size =
     record {
+      read_shape = read_shape s;
       read_differs = read_tables_differ s;
       finish_shape = finish_shape size;
       finish_conserves = finish_conserves size;
@@ -50,4 +49,4 @@ shown {s} size =
     }
 
 pub at_both_sizes : AtBothSizes
-at_both_sizes = (shown page-size, shown panel-size)
+at_both_sizes = (at_every_size _ page-size, at_every_size _ panel-size)

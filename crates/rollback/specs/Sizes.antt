@@ -1,7 +1,7 @@
--- What is shown at every page size, gathered; and that it is shown at the two page sizes of the C interface.
+-- What is shown at a page size, gathered; that it is shown at each page size, and so at the two of the C interface.
 use Rattle.std.specs.Prelude.{ℕ}
-use Rattle.page.specs.PageSize.{standard_page_size, panel_page_size}
-use Rattle.free_list.specs.Theorems.{ReadDiffers}
+use Rattle.page.specs.PageSize.{IsPageSize, standard_page_size, panel_page_size}
+use Rattle.free_list.specs.Theorems.{ReadShape, ReadDiffers}
 use Rattle.finisher.specs.Theorems.{FinishShape, FinishConserves, FinishDiffers, FinishReadsBack}
 use Rattle.overflow.specs.Theorems.{Least, OneLess, PageForEach, NoneEmpty, NeverEmpty, PageTaken, SpareIsLeft, PageWhole, BodiesWhole, ReadsBack, DeletesAll, OneTotal, DeleteKnows}
 use Rattle.rollback.specs.Rollback.{Rollback}
@@ -11,6 +11,7 @@ use Rattle.rollback.specs.HandedOut.{ReadHandsOut, FinishHandsOut}
 
 pub record Shown (s : ℕ) : Type 0 where
   -- lists and finishes
+  pub read_shape : ReadShape s
   pub read_differs : ReadDiffers s
   pub finish_shape : FinishShape s
   pub finish_conserves : FinishConserves s
@@ -42,6 +43,10 @@ pub record Shown (s : ℕ) : Type 0 where
   pub read_opens : ReadOpens s
   pub written_reads : WrittenReads s
   pub code_rollback : CodeRollback s
+
+-- at any multiple of 4, up to 65,536, whose list page holds two numbers or more
+abbrev pub AtEverySize : Type 0
+AtEverySize = (s : ℕ) → IsPageSize s → Shown s
 
 abbrev pub AtBothSizes : Type 0
 AtBothSizes = Shown standard_page_size × Shown panel_page_size

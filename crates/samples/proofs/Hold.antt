@@ -1,16 +1,14 @@
 -- Document 01's marked samples hold, and document 02's.
 -- Each row is an equation of two terms that compute to the same; a whole page that stands in a buffer by the law of such places, since
 -- place by place it computes too long.
-use Prim.Native.Nat.{ℕ, ◌+◌, ◌-◌, ◌^◌, ◌≤◌}
-use mathlib.Core.Bool.{◌&&◌, cond}
-use lib.Dec.{leb}
+use Prim.Native.Nat.{ℕ, ◌+◌, ◌^◌}
 use mathlib.Core.Path.{◌≡◌, refl, ◌∙◌}
 use mathlib.Core.List.{List, [], ◌∷◌, ◌++◌, append-nil}
 use native.Mathlib.Omega.{arith}
 use lib.ListN.{length, replicate, length-replicate}
 use lib.Seq.{sets, sets-eq}
 use Rattle.laws.specs.Counting.{count, all_different, all_below, numbers_from}
-use Rattle.refusal.specs.Outcome.{answer, check}
+use Rattle.refusal.specs.Outcome.{answer}
 use Rattle.page.specs.Growth.{grow, grown, rounded_up}
 use Rattle.page.specs.Bytes.{number_at, numbers_at, bytes_of, bytes_of_all}
 use Rattle.page.specs.PageSize.{standard_page_size, capacity}
@@ -25,13 +23,12 @@ use Rattle.finisher.specs.Finish.{new_list, encoded_page, encoded_pages, carried
 use Rattle.finisher.proofs.FinishLaws.{into-answered}
 use Rattle.bit_map.specs.BitMap.{bytes_in_use, cleared}
 use Rattle.overflow.specs.Totals.{max_size, holds, first_from, new_total, raw_pages, old_total, spare_room, total_of, page_total}
-use Rattle.overflow.proofs.NewTotalLaws.{one_less}
 use Rattle.overflow.specs.Layout.{numbers_before, numbers_on, bytes_before, bytes_on}
 use Rattle.overflow.specs.ValuePages.{number_count, byte_count, value_numbers, value_bytes, encode_value_page, value_page, chunk, chunk_into}
 use Rattle.overflow.specs.Cells.{cell_bytes, cell_size, cell_count, cell_of, decode_cell}
 use Rattle.overflow.specs.Reading.{in_store, parse_page, walk, value_total, admitted, read_value_into, delete_into}
 use Rattle.samples.proofs.LargeTotals.{large}
-use Rattle.samples.specs.Samples.{old, pages, list, save, room, unmarked, finish, writes, value, write, writes_bytes, Samples}
+use Rattle.samples.specs.Samples.{old, list, save, room, unmarked, finish, writes, value, write, writes_bytes, Samples}
 
 -- a whole page in a buffer with a place more
 page-stands : (bytes : List ℕ) → length bytes ≡ standard_page_size → sets (replicate (standard_page_size + 1) old) 0 bytes ≡ bytes ++ (old ∷ [])

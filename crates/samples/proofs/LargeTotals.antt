@@ -6,7 +6,7 @@ use mathlib.Core.Path.{◌≡◌, ◌∙◌}
 use lib.Dec.{leb}
 use Rattle.refusal.specs.Outcome.{answer, check}
 use Rattle.page.specs.PageSize.{IsPageSize}
-use Rattle.overflow.specs.Totals.{max_size, holds, new_total, old_total, total_of, page_total}
+use Rattle.overflow.specs.Totals.{max_size, holds, old_total, total_of, page_total}
 use Rattle.overflow.proofs.NewTotalLaws.{one_less}
 use Rattle.samples.specs.Samples.{pages}
 

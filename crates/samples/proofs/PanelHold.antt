@@ -1,10 +1,11 @@
 -- The panel's limits and totals: each row is an equation of two terms that compute to the same.
-use Prim.Native.Nat.{◌+◌, ◌-◌, ◌^◌}
+use Prim.Native.Nat.{◌^◌}
 use mathlib.Core.Path.{refl}
 use native.Mathlib.Omega.{arith}
 use Rattle.page.specs.PageSize.{capacity}
 use Rattle.page.specs.Bytes.{number_at, numbers_at, bytes_of, bytes_of_all}
 use Rattle.page.proofs.PageSizeLaws.{panel-size}
+use Rattle.page.specs.Pages.{page_count}
 use Rattle.free_list.specs.Reading.{count_fits}
 use Rattle.overflow.specs.Totals.{max_size, holds, first_from, new_total, raw_pages, old_total, spare_room, total_of, page_total}
 use Rattle.overflow.specs.ValuePages.{number_count, byte_count}
@@ -14,7 +15,7 @@ use Rattle.samples.specs.Panel.{PanelSamples}
 use Rattle.samples.proofs.LargeTotals.{large}
 
 pub panel_samples : PanelSamples
-unfolding capacity count_fits number_at numbers_at bytes_of bytes_of_all number_count byte_count max_size holds first_from new_total raw_pages old_total spare_room total_of page_total cell_bytes cell_size cell_count cell_of decode_cell encode_cell encode_cell_into decode_cell_into parse_page
+unfolding capacity page_count count_fits number_at numbers_at bytes_of bytes_of_all number_count byte_count max_size holds first_from new_total raw_pages old_total spare_room total_of page_total cell_bytes cell_size cell_count cell_of decode_cell encode_cell encode_cell_into decode_cell_into parse_page
 panel_samples =
     record {
       body_of_a_page = refl;
@@ -22,6 +23,11 @@ panel_samples =
       numbers_on_a_page = refl;
       entries_254 = refl;
       entries_255 = refl;
+      entries_253_under_one = refl;
+      entries_252_under_one = refl;
+      entries_253_under_two = refl;
+      pages_of_2047_bytes = refl;
+      pages_of_2048_bytes = refl;
       numbers_255 = refl;
       numbers_256 = refl;
       bytes_1020 = refl;

@@ -3,6 +3,7 @@ use Rattle.std.specs.Prelude.{ℕ, ◌+◌, ◌-◌, ◌^◌, ◌≡◌, true, f
 use Rattle.refusal.specs.Outcome.{Outcome, answer, refused}
 use Rattle.refusal.specs.Effect.{Effect, effect}
 use Rattle.page.specs.PageSize.{panel_page_size, standard_page_size, capacity}
+use Rattle.page.specs.Pages.{page_count}
 use Rattle.free_list.specs.Reading.{count_fits}
 use Rattle.overflow.specs.Totals.{body, max_size, page_total}
 use Rattle.overflow.specs.Layout.{numbers_per_page}
@@ -34,6 +35,11 @@ pub record PanelSamples : Type 0 where
   pub numbers_on_a_page : numbers_per_page panel_page_size ≡ 255
   pub entries_254 : count_fits false (capacity panel_page_size) 0 0 254 ≡ true
   pub entries_255 : count_fits false (capacity panel_page_size) 0 0 255 ≡ false
+  pub entries_253_under_one : count_fits false (capacity panel_page_size) 1 1 253 ≡ true
+  pub entries_252_under_one : count_fits false (capacity panel_page_size) 1 1 252 ≡ false
+  pub entries_253_under_two : count_fits false (capacity panel_page_size) 1 2 253 ≡ false
+  pub pages_of_2047_bytes : page_count panel_page_size (replicate 2047 0) ≡ 1
+  pub pages_of_2048_bytes : page_count panel_page_size (replicate 2048 0) ≡ 2
   pub numbers_255 : parsed (255 ∷ 0 ∷ 0 ∷ 0 ∷ []) ≡ answer (value_page (255 ∷ 0 ∷ 0 ∷ 0 ∷ []))
   pub numbers_256 : parsed (0 ∷ 1 ∷ 0 ∷ 0 ∷ []) ≡ refused 16 (5 ∷ [])
   pub bytes_1020 : parsed (0 ∷ 0 ∷ 252 ∷ 3 ∷ []) ≡ answer (value_page (0 ∷ 0 ∷ 252 ∷ 3 ∷ []))
