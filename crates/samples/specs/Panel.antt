@@ -13,7 +13,7 @@ use Rattle.samples.specs.Samples.{old, pages}
 
 -- a value page with these four bytes at its front, and zeros behind them
 abbrev pub value_page : List ℕ → List ℕ
-value_page counts = counts ++ replicate 1020 0
+value_page counts = counts ++ replicate (body panel_page_size) 0
 
 -- it is parsed as page 5 of a walk
 abbrev pub parsed : List ℕ → Outcome (List ℕ)

@@ -1,7 +1,8 @@
 // The operations of the C interface at any page size, as a static library for the comparison with the Rust.
 //
 // A page has so many words of four bytes more than the four that the least page has.
-// Each function is written out, one call of `calls` in each, since C calls it by its name; `mopsienna_c` has the same at document 01's page size.
+// Each function is written out, one call of `calls` in each, since C calls it by its name; `mopsienna_c` has the same at its two page
+// sizes.
 #![tactic(auto)]
 
 ghost use Rattle.page.specs.PageSize.{page_size_of};
