@@ -17,7 +17,7 @@ use Rattle.page.proofs.BytesLaws.{number_at_append-left}
 use Rattle.page.proofs.PageSizeLaws.{page_least}
 use Rattle.overflow.specs.Totals.{max_size, IsTotal}
 use Rattle.overflow.specs.ValuePages.{number_count, byte_count, value_page, chunk, chunk_into}
-use Rattle.overflow.specs.Stored.{stored_in}
+use Rattle.refusal.specs.Stored.{stored_in}
 use Rattle.overflow.specs.Theorems.{PageForEach, NoneEmpty, NeverEmpty, PageTaken}
 use Rattle.overflow.proofs.NewTotalLaws.{either_tight}
 use Rattle.overflow.proofs.ValuePagesLaws.{length_value_page, value_page_fits, value_page_some}

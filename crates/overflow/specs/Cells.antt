@@ -7,7 +7,7 @@ use Rattle.refusal.specs.Refusals.{outcome}
 use Rattle.refusal.specs.declared.Refusal.{Refusal}
 use Rattle.page.specs.Bytes.{number_at, bytes_of, numbers_at, bytes_of_all}
 use Rattle.overflow.specs.Totals.{max_size}
-use Rattle.overflow.specs.Stored.{stored_in}
+use Rattle.refusal.specs.Stored.{stored_in}
 use Rattle.overflow.specs.declared.cell.ValueCounts.{ValueCounts as CountsTold}
 
 pub record Cell : Type 0 where

@@ -5,7 +5,7 @@ use Rattle.refusal.specs.Effect.{Effect}
 use Rattle.page.specs.Bytes.{number_at, bytes_of, numbers_at, bytes_of_all}
 use Rattle.overflow.specs.Totals.{max_size, cell_numbers}
 use Rattle.overflow.specs.Layout.{numbers_before, numbers_on, bytes_before, bytes_on}
-use Rattle.overflow.specs.Stored.{stored_in}
+use Rattle.refusal.specs.Stored.{stored_in}
 
 -- the count of numbers
 unfoldable pub number_count : List ℕ → ℕ

@@ -1,7 +1,7 @@
 // Cells: size (8 bytes), hash (32, carried and not computed), numbers of pages.
 ghost use Rattle.std.specs.Prelude.{◌≡◌};
 ghost use Rattle.refusal.specs.Effect.{effect};
-ghost use Rattle.overflow.specs.Stored.{written_outcome};
+ghost use Rattle.refusal.specs.Stored.{written_outcome};
 ghost use Rattle.overflow.specs.Cells.{cell_with, encode_cell_into, decoded_outcome, cell_counts, decode_cell_into};
 
 use crate::total::max_overflow_value_size;

@@ -2,7 +2,7 @@
 ghost use Rattle.std.specs.Prelude.{◌≡◌, ◌+◌, ◌<◌, ◌≤◌, length};
 ghost use Rattle.std.proofs.lemmas.List.Edits.{sets};
 ghost use Rattle.refusal.specs.Effect.{effect};
-ghost use Rattle.overflow.specs.Stored.{written_outcome};
+ghost use Rattle.refusal.specs.Stored.{written_outcome};
 ghost use Rattle.overflow.specs.Totals.{max_size, total_by};
 ghost use Rattle.overflow.specs.Layout.{numbers_before, bytes_before};
 ghost use Rattle.overflow.specs.ValuePages.{value_page, chunk_into};
