@@ -9,7 +9,8 @@
  * were. A refusal that returns a value puts it into out[0]; where none is named, `out` is untouched.
  *
  * A page has 4,096 bytes and a number of 32 bits; number 0 is no page. mopsienna_panel.h has the
- * functions, but for mopsienna_grow, once more for pages of 1,024 bytes.
+ * functions, but for mopsienna_grow, mopsienna_columns and mopsienna_rows, once more for pages of
+ * 1,024 bytes.
  *
  * A slice is a pointer and a length. The pointer is not null, also where the length is 0, and is
  * aligned for its type; slices that are written overlap no other. Below, [0 .. n] are the places from
@@ -51,7 +52,9 @@ enum {
     MOPSIENNA_MAP = 21,        /* a bit map that is too short */
     MOPSIENNA_REPEAT = 22,     /* a number that stands twice in a list or is freed twice, or one at
                                 * or past the bump as it has risen */
-    MOPSIENNA_EMPTY_PAGE = 25  /* a value page that has no numbers and no bytes */
+    MOPSIENNA_EMPTY_PAGE = 25, /* a value page that has no numbers and no bytes */
+    MOPSIENNA_ROWS = 26,       /* a length that is no multiple of a row's 8 bytes */
+    MOPSIENNA_SECOND_BUFFER = 27 /* a second buffer that is too short */
 };
 
 /* The largest page number that a store grows for, and the largest bump. */
@@ -326,6 +329,26 @@ uint32_t mopsienna_delete_value(const uint8_t *cell, size_t cell_len, const uint
 uint32_t mopsienna_lookup(const uint32_t *numbers, size_t numbers_len, const uint8_t *pending,
                           size_t pending_len, const uint8_t *store, size_t store_len, uint32_t page,
                           uint64_t out[8]);
+
+/*
+ * A batch recording is rows of four readings: bean, exhaust, airflow and drum, 2 bytes each,
+ * little-endian. Its columns are as many bytes: all of the first column, then the second, third and
+ * fourth; in a column the first reading stays, and each other one is replaced by its difference from
+ * the one before, going round at 65,536.
+ *
+ * mopsienna_columns makes columns of `rows`, and mopsienna_rows makes rows of `columns`. Each undoes the
+ * other, on all bytes whose length is a multiple of 8, 0 too. What they make stands at the start of
+ * the second buffer, as many bytes as the first has. Its later bytes stay as they were, and after a
+ * refusal all do.
+ *
+ * Refusals of both, in this order:
+ *   26  the length of the first buffer is no multiple of 8
+ *   27  the second buffer is shorter than the first
+ */
+uint32_t mopsienna_columns(const uint8_t *rows, size_t rows_len, uint8_t *columns,
+                           size_t columns_len);
+
+uint32_t mopsienna_rows(const uint8_t *columns, size_t columns_len, uint8_t *rows, size_t rows_len);
 
 #ifdef __cplusplus
 }

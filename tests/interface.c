@@ -771,6 +771,53 @@ static void totals(void) {
     total(UINT64_MAX, MOPSIENNA_SIZE, 0, 0, 0, 0);
 }
 
+/* Three rows, and what docs/FORMAT.md has for their columns. */
+static const uint8_t ROWS[24] = {0xD0, 0x07, 0xDC, 0x05, 0x2C, 0x01, 0x3C, 0x00, 0xDA, 0x07, 0xD2, 0x05,
+                                 0x2C, 0x01, 0x3D, 0x00, 0xD5, 0x07, 0xD7, 0x05, 0x36, 0x01, 0x3C, 0x00};
+static const uint8_t COLUMNS[24] = {0xD0, 0x07, 0x0A, 0x00, 0xFB, 0xFF, 0xDC, 0x05, 0xF6, 0xFF, 0x05, 0x00,
+                                    0x2C, 0x01, 0x00, 0x00, 0x0A, 0x00, 0x3C, 0x00, 0x01, 0x00, 0xFF, 0xFF};
+
+/* Bean goes round at 65,536, up and down; drum goes by half of it. */
+static const uint8_t ROUND[24] = {0xFF, 0xFF, 1, 2, 3, 4, 0x00, 0x80, 0x00, 0x00, 5, 6,
+                                  7, 8, 0x00, 0x00, 0xFF, 0xFF, 9, 9, 9, 9, 0x00, 0x80};
+static const uint8_t ROUND_COLUMNS[24] = {0xFF, 0xFF, 0x01, 0x00, 0xFF, 0xFF, 1, 2, 4, 4, 4, 3,
+                                          3, 4, 4, 4, 2, 1, 0x00, 0x80, 0x00, 0x80, 0x00, 0x80};
+
+typedef uint32_t rearrangement(const uint8_t *, size_t, uint8_t *, size_t);
+
+/* `from` gives `len` bytes in a second buffer of `room`, whose later bytes stay; on a refusal all do. */
+static void rearrange(const char *call, rearrangement *way, const uint8_t *from, size_t len, size_t room,
+                      uint32_t status, const uint8_t *expected) {
+    uint8_t buffer[32];
+    memset(buffer, 0xA5, sizeof buffer);
+    size_t made = status == 0 ? len : 0;
+    check(call, way(from, len, buffer, room) == status);
+    check(call, memcmp(buffer, expected, made) == 0 && all(buffer, made, sizeof buffer, 0xA5));
+}
+
+static void recordings(void) {
+    rearrange("columns", mopsienna_columns, ROWS, 24, 32, 0, COLUMNS);
+    rearrange("rows", mopsienna_rows, COLUMNS, 24, 32, 0, ROWS);
+    rearrange("columns, just room", mopsienna_columns, ROWS, 24, 24, 0, COLUMNS);
+    rearrange("rows, just room", mopsienna_rows, COLUMNS, 24, 24, 0, ROWS);
+    rearrange("columns, going round", mopsienna_columns, ROUND, 24, 24, 0, ROUND_COLUMNS);
+    rearrange("rows, going round", mopsienna_rows, ROUND_COLUMNS, 24, 24, 0, ROUND);
+    rearrange("columns of one row", mopsienna_columns, ROWS, 8, 9, 0, ROWS);
+    rearrange("one row", mopsienna_rows, ROWS, 8, 9, 0, ROWS);
+    rearrange("columns of no row", mopsienna_columns, ROWS, 0, 0, 0, ROWS);
+    rearrange("no row", mopsienna_rows, ROWS, 0, 0, 0, ROWS);
+    for (size_t len = 17; len < 24; len++) {
+        rearrange("columns of a part of a row", mopsienna_columns, ROWS, len, 24, MOPSIENNA_ROWS, ROWS);
+        rearrange("a part of a row", mopsienna_rows, ROWS, len, 24, MOPSIENNA_ROWS, ROWS);
+    }
+    for (size_t room = 0; room < 24; room++) {
+        rearrange("columns, no room", mopsienna_columns, ROWS, 24, room, MOPSIENNA_SECOND_BUFFER, ROWS);
+        rearrange("rows, no room", mopsienna_rows, ROWS, 24, room, MOPSIENNA_SECOND_BUFFER, ROWS);
+    }
+    rearrange("columns of a part, no room", mopsienna_columns, ROWS, 23, 22, MOPSIENNA_ROWS, ROWS);
+    rearrange("a part, no room", mopsienna_rows, ROWS, 23, 22, MOPSIENNA_ROWS, ROWS);
+}
+
 int main(void) {
     saves();
     repeats_in_saves();
@@ -784,6 +831,7 @@ int main(void) {
     lookups();
     grows();
     totals();
+    recordings();
 
     printf("C interface, pages of %d bytes: %d checks, %d wrong\n", PAGE, checks, failures);
     return failures != 0;

@@ -1,4 +1,5 @@
 -- What each function of the C interface leaves, by the definition that its operation's contract cites.
+pub mod Columns
 pub mod Lists
 pub mod Lookups
 pub mod Saves

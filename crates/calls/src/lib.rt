@@ -4,6 +4,7 @@
 // `specs/` says of each function what it leaves: what it returns, its `out`, and everything that was lent to it.
 #![tactic(auto)]
 
+pub mod columns;
 pub mod lists;
 pub mod lookups;
 pub mod saves;

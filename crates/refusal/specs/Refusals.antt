@@ -2,7 +2,7 @@
 use Rattle.std.specs.Prelude.{ℕ, List, [], ◌∷◌, Option, Some, None, Result, Ok, Err}
 use Rattle.refusal.specs.Outcome.{Outcome, answer, refused}
 use Rattle.refusal.specs.declared.Refusal.{Refusal}
-use Rattle.refusal.specs.declared.Refusal.TheVariants.{State, ListPage, Count, Entry, Chain, Tables, Limit, Freed, Buffer, Size, Index, Cell, Room, Unknown, Missing, ValuePage, Numbers, Bytes, Map, Repeat, EmptyPage}
+use Rattle.refusal.specs.declared.Refusal.TheVariants.{State, ListPage, Count, Entry, Chain, Tables, Limit, Freed, Buffer, Size, Index, Cell, Room, Unknown, Missing, ValuePage, Numbers, Bytes, Map, Repeat, EmptyPage, Rows, SecondBuffer}
 
 -- the number
 abbrev pub number : Refusal → ℕ
@@ -27,6 +27,8 @@ number Bytes = 18
 number Map = 21
 number Repeat = 22
 number (EmptyPage index) = 25
+number Rows = 26
+number SecondBuffer = 27
 
 -- what is returned beside the number; of a page that is looked up the index of `Missing` is its number
 abbrev pub values : Refusal → List ℕ
@@ -51,6 +53,8 @@ values Bytes = []
 values Map = []
 values Repeat = []
 values (EmptyPage index) = index ∷ []
+values Rows = []
+values SecondBuffer = []
 
 -- a value returned beside the number, or none
 abbrev pub told_beside : Option ℕ → List ℕ

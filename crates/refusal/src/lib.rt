@@ -52,6 +52,10 @@ pub enum Refusal {
     Repeat,
     // 25: the value page at this index has no numbers and no bytes.
     EmptyPage(usize),
+    // 26: a length that is not a multiple of a row's bytes.
+    Rows,
+    // 27: the second buffer is too short.
+    SecondBuffer,
 }
 
 // The refusal's number in its document.
@@ -81,6 +85,8 @@ impl From<Refusal> for u32 {
             Refusal::Map => 21,
             Refusal::Repeat => 22,
             Refusal::EmptyPage(_) => 25,
+            Refusal::Rows => 26,
+            Refusal::SecondBuffer => 27,
         }
     }
 }
