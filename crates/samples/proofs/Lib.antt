@@ -2,3 +2,4 @@
 pub mod LargeTotals
 pub mod Hold
 pub mod PanelHold
+pub mod RecordingsHold
