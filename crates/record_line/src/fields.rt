@@ -134,13 +134,13 @@ impl<'a> Fields<'a> {
         Ok(())
     }
 
-    // Takes a status and the eight numbers beside it.
-    pub fn expect_reply(&mut self, status: u32, out: &[u64; 8]) -> Result<(), WrongLine>
-        ensures ok { OnOk result (self.old ≡ status ∷ (out.now ++ self.new)) }
-        ensures wrong { OnErr result ((rest : List ℕ) → self.old ≢ status ∷ (out.now ++ rest)) }
+    // Takes a status and the numbers beside it: `out`, or what the call wrote.
+    pub fn expect_reply<T: Number>(&mut self, status: u32, items: &[T]) -> Result<(), WrongLine>
+        ensures ok { OnOk result (self.old ≡ status ∷ (map T.number items.now ++ self.new)) }
+        ensures wrong { OnErr result ((rest : List ℕ) → self.old ≢ status ∷ (map T.number items.now ++ rest)) }
     {
         self.expect(&[status])?;
-        self.expect(out)
+        self.expect(items)
     }
 
     // No number is left.

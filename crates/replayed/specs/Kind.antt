@@ -1,7 +1,7 @@
 -- The numbers that name the kinds of calls.
 use Rattle.std.specs.Prelude.{ℕ, ◌≡◌, ◌≢◌, List, ◌∷◌}
 use Rattle.replayed.specs.declared.kind.Kind.{Kind}
-use Rattle.replayed.specs.declared.kind.Kind.TheVariants.{Grow, Total, ReadList, HandOut, Finish, WritePage, EncodeCell, DecodeCell, ReadValue, DeleteValue, Lookup, WriteOldPage}
+use Rattle.replayed.specs.declared.kind.Kind.TheVariants.{Grow, Total, ReadList, HandOut, Finish, WritePage, EncodeCell, DecodeCell, ReadValue, DeleteValue, Lookup, WriteOldPage, Columns, Rows}
 
 -- the number of each kind
 abbrev pub number_of : Kind → ℕ
@@ -17,6 +17,8 @@ number_of ReadValue = 9
 number_of DeleteValue = 10
 number_of Lookup = 11
 number_of WriteOldPage = 12
+number_of Columns = 13
+number_of Rows = 14
 
 -- n is the number of no kind
 abbrev pub NamesNone : ℕ → Type 0

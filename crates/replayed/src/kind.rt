@@ -19,6 +19,8 @@ pub enum Kind {
     DeleteValue,
     Lookup,
     WriteOldPage,
+    Columns,
+    Rows,
 }
 
 impl TryFrom<u64> for Kind {
@@ -42,6 +44,8 @@ impl TryFrom<u64> for Kind {
             10 => Ok(Kind::DeleteValue),
             11 => Ok(Kind::Lookup),
             12 => Ok(Kind::WriteOldPage),
+            13 => Ok(Kind::Columns),
+            14 => Ok(Kind::Rows),
             _ => Err(WrongLine),
         }
     }

@@ -13,6 +13,7 @@ use record_line::fields::Fields;
 use replayed_values::values;
 use std::alloc::Global;
 
+mod columns;
 mod kind;
 mod lists;
 mod lookups;
@@ -51,5 +52,7 @@ fn replay_kind(kind: Kind, fields: &mut Fields<'_>) -> Result<(), Fault> {
         Kind::ReadValue => values::read_value(fields),
         Kind::DeleteValue => values::delete_value(fields),
         Kind::Lookup => lookups::lookup(fields),
+        Kind::Columns => columns::columns(fields),
+        Kind::Rows => columns::rows(fields),
     }
 }

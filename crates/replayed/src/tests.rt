@@ -53,3 +53,23 @@ fn looks_up(rt: HostRuntime) -> Result<(), Fail> {
     assert!(rt; replay(rt.alloc(), &line));
     Ok(())
 }
+
+// Three rows: bean, exhaust, airflow and drum of three moments.
+#[test]
+fn makes_columns(rt: HostRuntime) -> Result<(), Fail> {
+    let line = numbers(
+        rt.alloc(),
+        "13 24 208 7 220 5 44 1 60 0 218 7 210 5 44 1 61 0 213 7 215 5 54 1 60 0 25 0 208 7 10 0 251 255 220 5 246 255 5 0 44 1 0 0 10 0 60 0 1 0 \
+         255 255 9",
+    )?;
+    assert!(rt; replay(rt.alloc(), &line));
+    Ok(())
+}
+
+// A length of nine bytes is no rows.
+#[test]
+fn makes_no_rows(rt: HostRuntime) -> Result<(), Fail> {
+    let line = numbers(rt.alloc(), "14 9 1 2 3 4 5 6 7 8 9 2 26 9 9")?;
+    assert!(rt; replay(rt.alloc(), &line));
+    Ok(())
+}

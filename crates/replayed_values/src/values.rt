@@ -1,5 +1,5 @@
 // Values: writing their pages and cells, reading and deleting them.
-ghost use Rattle.std.specs.Prelude.{◌≡◌, ◌∷◌, ◌++◌, OnOk};
+ghost use Rattle.std.specs.Prelude.{OnOk};
 ghost use Rattle.replayed_values.specs.Taken.{TakesAtLeast};
 
 use crate::pages::{NONE_PENDING, agrees, page_size};
@@ -36,15 +36,7 @@ fn write_page_by(fields: &mut Fields<'_>, rule: TotalRule) -> Result<(), Fault>
     let numbers = fields.array()?;
     let mut page = fields.blank()?;
     let status = values::write_value_page(page_size, rule, &value, &numbers, index, &mut page);
-    Ok(expect_written(fields, status, &page)?)
-}
-
-// Takes a status and the bytes that the call left.
-fn expect_written(fields: &mut Fields<'_>, status: u32, bytes: &[u8]) -> Result<(), WrongLine>
-    ensures { OnOk result (fields.old ≡ status ∷ (bytes.now ++ fields.new)) }
-{
-    fields.expect(&[status])?;
-    fields.expect(bytes)
+    Ok(fields.expect_reply(status, &page)?)
 }
 
 // size, hash[] of 32 bytes, numbers[], the length of the cell | status cell
@@ -57,7 +49,7 @@ pub fn encode_cell(fields: &mut Fields<'_>) -> Result<(), Fault>
     let mut cell = fields.blank()?;
     let hash = hash.as_array().ok_or(WrongLine)?;
     let status = values::encode_cell(PageSize::standard(), size, hash, &numbers, &mut cell);
-    Ok(expect_written(fields, status, &cell)?)
+    Ok(fields.expect_reply(status, &cell)?)
 }
 
 // cell[] | status out hash

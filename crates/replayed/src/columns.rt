@@ -1,0 +1,26 @@
+// Columns before storage, and back.
+ghost use Rattle.std.specs.Prelude.{OnOk};
+ghost use Rattle.replayed_values.specs.Taken.{TakesAtLeast};
+
+use record_line::fault::Fault;
+use record_line::fields::Fields;
+
+// rows[], the length of the columns | status columns
+pub fn columns(fields: &mut Fields<'_>) -> Result<(), Fault>
+    ensures { OnOk result (TakesAtLeast 3 fields.old fields.new) }
+{
+    let rows = fields.array()?;
+    let mut columns = fields.blank()?;
+    let status = calls::columns::columns(&rows, &mut columns);
+    Ok(fields.expect_reply(status, &columns)?)
+}
+
+// columns[], the length of the rows | status rows
+pub fn rows(fields: &mut Fields<'_>) -> Result<(), Fault>
+    ensures { OnOk result (TakesAtLeast 3 fields.old fields.new) }
+{
+    let columns = fields.array()?;
+    let mut rows = fields.blank()?;
+    let status = calls::columns::rows(&columns, &mut rows);
+    Ok(fields.expect_reply(status, &rows)?)
+}
