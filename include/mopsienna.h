@@ -1,6 +1,7 @@
 /*
  * Mopsienna: the page part of a store that is saved by fresh pages, so that a failed save can be
- * rolled back. A port of nomt's free-list allocator and overflow values.
+ * rolled back. A port of nomt's free-list allocator and overflow values; and a rearrangement of batch
+ * recordings, which is not nomt's.
  *
  * Every function ends on all inputs and stays inside what it is lent. It returns 0, or the number
  * of a refusal, and then it has done nothing else than what its refusals below say.
@@ -54,7 +55,7 @@ enum {
                                 * or past the bump as it has risen */
     MOPSIENNA_EMPTY_PAGE = 25, /* a value page that has no numbers and no bytes */
     MOPSIENNA_ROWS = 26,       /* a length that is no multiple of a row's 8 bytes */
-    MOPSIENNA_SECOND_BUFFER = 27 /* a second buffer that is too short */
+    MOPSIENNA_SECOND_BUFFER = 27 /* a second buffer that is shorter than the first */
 };
 
 /* The largest page number that a store grows for, and the largest bump. */
@@ -333,13 +334,17 @@ uint32_t mopsienna_lookup(const uint32_t *numbers, size_t numbers_len, const uin
 /*
  * A batch recording is rows of four readings: bean, exhaust, airflow and drum, 2 bytes each,
  * little-endian. Its columns are as many bytes: all of the first column, then the second, third and
- * fourth; in a column the first reading stays, and each other one is replaced by its difference from
- * the one before, going round at 65,536.
+ * fourth. In a column the first reading stays, and in place of each other one stands that reading less
+ * the reading before it, modulo 65,536; again 2 bytes each, little-endian.
  *
- * mopsienna_columns makes columns of `rows`, and mopsienna_rows makes rows of `columns`. Each undoes the
- * other, on all bytes whose length is a multiple of 8, 0 too. What they make stands at the start of
- * the second buffer, as many bytes as the first has. Its later bytes stay as they were, and after a
- * refusal all do.
+ * mopsienna_columns makes columns of `rows`, and mopsienna_rows makes rows of `columns`. Each reads its
+ * first buffer and writes as many bytes to the start of its second; the two must not overlap. Later
+ * bytes of the second stay as they were, and after a refusal all its bytes do. A length of 0 is taken,
+ * and nothing is written.
+ *
+ * Each undoes the other, on all bytes whose length is a multiple of 8, 0 too, where it is given exactly
+ * the bytes that the other wrote: not later bytes of that buffer, nor a part. Nothing in the bytes tells
+ * whether they are rows or columns.
  *
  * Refusals of both, in this order:
  *   26  the length of the first buffer is no multiple of 8

@@ -14,9 +14,9 @@
  *   the largest value (refusal 10 above it)       2^29            2^20
  *   the least size of which the totals differ     4,243,403       274,379
  *
- * Where it names a function or MOPSIENNA_MAX_SIZE, the one here is meant. The same at both sizes are
- * numbers of 32 bits, 15 numbers in a cell and MOPSIENNA_MAX_BUMP; mopsienna_grow, mopsienna_columns
- * and mopsienna_rows are for both.
+ * Where it names MOPSIENNA_MAX_SIZE or a function that stands here too, the one here is meant. The same
+ * at both sizes are numbers of 32 bits, 15 numbers in a cell and MOPSIENNA_MAX_BUMP; mopsienna_grow,
+ * mopsienna_columns and mopsienna_rows are for both.
  *
  * Nothing in a store or in a cell tells its page size. A host calls the functions of one size for a
  * store, and for its cells.

@@ -806,7 +806,9 @@ static void recordings(void) {
     rearrange("one row", mopsienna_rows, ROWS, 8, 9, 0, ROWS);
     rearrange("columns of no row", mopsienna_columns, ROWS, 0, 0, 0, ROWS);
     rearrange("no row", mopsienna_rows, ROWS, 0, 0, 0, ROWS);
-    for (size_t len = 17; len < 24; len++) {
+    for (size_t len = 1; len < 24; len++) {
+        if (len % 8 == 0)
+            continue;
         rearrange("columns of a part of a row", mopsienna_columns, ROWS, len, 24, MOPSIENNA_ROWS, ROWS);
         rearrange("a part of a row", mopsienna_rows, ROWS, len, 24, MOPSIENNA_ROWS, ROWS);
     }

@@ -10,8 +10,14 @@ recording_samples =
     record {
       columns_made = refl;
       rows_made = refl;
+      columns_fit = refl;
+      rows_fit = refl;
       no_columns_made = refl;
       no_rows_made = refl;
+      half_a_row = refl;
+      half_a_row_of_columns = refl;
+      row_and_a_half = refl;
+      row_and_a_half_of_columns = refl;
       part_of_a_row = refl;
       part_of_columns = refl;
       columns_too_long = refl;
