@@ -4,9 +4,9 @@
 // `specs/` says of each function what it leaves: what it returns, its `out`, and everything that was lent to it.
 #![tactic(auto)]
 
-pub mod columns;
 pub mod lists;
 pub mod lookups;
+pub mod recordings;
 pub mod saves;
 pub mod told;
 pub mod totals;

@@ -6,10 +6,10 @@
 // Each function is written out, one call of `calls` in each, since C calls it by its name; `sized_c` has the same at any page size.
 #![tactic(auto)]
 
-pub mod columns;
 pub mod lists;
 pub mod lookups;
 pub mod panel;
+pub mod recordings;
 pub mod saves;
 pub mod totals;
 pub mod values;

@@ -13,10 +13,10 @@ use record_line::fields::Fields;
 use replayed_values::values;
 use std::alloc::Global;
 
-mod columns;
 mod kind;
 mod lists;
 mod lookups;
+mod recordings;
 #[cfg(test)]
 mod tests;
 mod totals;
@@ -52,7 +52,7 @@ fn replay_kind(kind: Kind, fields: &mut Fields<'_>) -> Result<(), Fault> {
         Kind::ReadValue => values::read_value(fields),
         Kind::DeleteValue => values::delete_value(fields),
         Kind::Lookup => lookups::lookup(fields),
-        Kind::Columns => columns::columns(fields),
-        Kind::Rows => columns::rows(fields),
+        Kind::Columns => recordings::columns(fields),
+        Kind::Rows => recordings::rows(fields),
     }
 }

@@ -1,6 +1,7 @@
 //! Times libmopsienna beside the Rust, one operation after another.
 
 mod cells;
+mod columns;
 mod lists;
 mod lookups;
 mod maps;
@@ -15,7 +16,7 @@ use timing::{Row, Side};
 const USAGE: &str = "\
 usage: bench [--rounds N] [PREFIX] | --once ROW ours|theirs|copy|fill|map|before
   --rounds N  samples of each side, 201 if not given
-  PREFIX      only the rows whose names begin so
+  PREFIX      only the rows whose names begin so; columns is a table of its own
   --once      one call of one side, for a program that counts instructions";
 
 enum Mode {
@@ -56,17 +57,25 @@ fn run(mode: Mode) -> io::Result<()> {
         &|| values::rows(&takes),
         &lookups::rows,
     ];
-    if let Mode::Compare { .. } = mode {
-        println!("{}", timing::HEADING);
-    }
     let mut found = false;
     for operation in operations {
         for mut row in operation()?.into_iter().filter(|row| takes(&row.name)) {
-            found = true;
             match &mode {
-                Mode::Compare { rounds, .. } => println!("{}", row.compare(*rounds)),
+                Mode::Compare { rounds, .. } => {
+                    if !found {
+                        println!("{}", timing::HEADING);
+                    }
+                    println!("{}", row.compare(*rounds));
+                }
                 Mode::Once { side, .. } => drop(row.sample(*side, 1)),
             }
+            found = true;
+        }
+    }
+    if let Mode::Compare { rounds, prefix } = &mode {
+        if "columns".starts_with(prefix.as_str()) {
+            found = true;
+            columns::show(*rounds);
         }
     }
     match found {

@@ -3,7 +3,8 @@
 
 use crate::report::Report;
 
-/// By operation: the library's reply, and what the Rust does there.
+/// By operation: the library's reply, and what the Rust does there. Of `columns` and `rows` there is
+/// nothing, as the Rust has no such operation.
 const DIFFERENCES: [(&str, &[(u32, &str)]); 14] = [
     (
         "grow",

@@ -3,6 +3,7 @@
 //! Exits with 0 if they agree everywhere, 1 if they disagree, 2 if the comparison could not be
 //! made.
 
+mod columns;
 mod differences;
 mod grow;
 mod histories;
@@ -23,7 +24,7 @@ use report::text_of;
 use std::{collections::BTreeMap, env, io, ops::RangeInclusive, process::ExitCode};
 
 /// The refusals of document 01's table, and those of document 02.
-const REFUSALS: [RangeInclusive<u32>; 3] = [1..=18, 21..=22, 25..=25];
+const REFUSALS: [RangeInclusive<u32>; 3] = [1..=18, 21..=22, 25..=27];
 
 const USAGE: &str = "\
 usage: compare [--short] [--seed N] [--count N] [--self-test] [--record FILE]
@@ -87,7 +88,7 @@ fn compare(plan: &Plan) -> io::Result<bool> {
         plan.count / values::RANDOM_SHARE,
         plan.count / histories::RANDOM_SHARE
     );
-    let operations: [&dyn Fn() -> io::Result<Vec<report::Report>>; 6] = [
+    let operations: [&dyn Fn() -> io::Result<Vec<report::Report>>; 7] = [
         &|| Ok(vec![grow::compare(plan, mopsienna_sys::grow)?]),
         &|| Ok(vec![totals::compare(plan, Form::total)]),
         &|| Ok(vec![lists::compare(plan, &saves::Linked)?]),
@@ -97,6 +98,7 @@ fn compare(plan: &Plan) -> io::Result<bool> {
             let (saves, values) = histories::compare(plan, &saves::Linked, &values::Linked)?;
             Ok(saves.into_iter().chain(values).collect())
         },
+        &|| Ok(columns::compare(plan, &columns::Linked)?.into()),
     ];
     let mut agreed = true;
     let mut reached = BTreeMap::new();

@@ -29,6 +29,8 @@ pub enum Kind {
     DeleteValue = 10,
     Lookup = 11,
     WriteOldPage = 12,
+    Columns = 13,
+    Rows = 14,
 }
 
 /// One call.
@@ -193,8 +195,8 @@ impl Recorder {
     pub fn write(&self, path: &str, seed: u64, count: u64) -> io::Result<String> {
         let mut text = format!(
             "# Made by oracle/compare --record, seed {seed}, count {count}: status 0 is what the Rust gave, any other a refusal of the documents \
-             that the model in oracle/compare gives. Page lookup, kind 11, is the model's alone, and so are values by a new total that is not the \
-             Rust's; kind 12 is writing by the Rust's.\n"
+             that the model in oracle/compare gives. Page lookup, kind 11, and columns and rows, kinds 13 and 14, are the model's alone, and so are \
+             values by a new total that is not the Rust's; kind 12 is writing by the Rust's.\n"
         );
         let mut counts: BTreeMap<(u32, u32), usize> = BTreeMap::new();
         for ((kind, number, _), class) in self.classes.borrow().iter() {

@@ -1,11 +1,13 @@
 //! Shows that the comparisons can fail: each is run with one reply of the library changed, or one
-//! place of what it is lent, and has to report a disagreement there; and those of lists and of finishes
-//! with libraries that are wrong in one way throughout.
+//! place of what it is lent, and has to report a disagreement there; and those of lists, of finishes and of
+//! columns and rows with libraries that are wrong in one way throughout.
 
 mod changed;
 mod wrong;
+mod wrong_columns;
 
 use crate::{
+    columns::{self, WAYS},
     grow, histories, lists,
     report::Report,
     saves::{self, FINISH, HAND_OUT, READ_BACK},
@@ -15,8 +17,8 @@ use crate::{
 };
 use changed::Changed;
 use mopsienna_sys::{self as library, Form, Reply};
-use std::{io, ops::Range};
-use wrong::{Fault, Wrong};
+use std::{fmt::Debug, io, ops::Range};
+use wrong::Wrong;
 
 /// The parts of a reply: its places, and its number after them.
 const PARTS: usize = library::UNTOUCHED.len() + 1;
@@ -56,6 +58,7 @@ pub fn run(plan: &Plan) -> io::Result<bool> {
     for fault in wrong::OF_FINISHES {
         tally.fault(fault, &at(FINISH, saves::compare(plan, &Wrong(fault))?));
     }
+    rearranged(plan, &mut tally)?;
     let Tally { changes, missed } = tally;
     println!("self-test: {changes} changes, {missed} not caught");
     Ok(missed == 0)
@@ -75,6 +78,24 @@ fn numbers(plan: &Plan, tally: &mut Tally) -> io::Result<()> {
                 changed_if((at, size) == (form, input), part, at.total(size))
             });
             tally.count(input, part, &report);
+        }
+    }
+    Ok(())
+}
+
+/// Changes columns and rows.
+fn rearranged(plan: &Plan, tally: &mut Tally) -> io::Result<()> {
+    for way in WAYS {
+        tally.each_part(way as usize, COLUMNS_PARTS, |changed| {
+            Ok(at(way as usize, columns::compare(plan, changed)?))
+        })?;
+    }
+    for report in columns::compare(plan, &wrong_columns::Wrong(None))? {
+        tally.no_fault(&report);
+    }
+    for fault in wrong_columns::FAULTS {
+        for report in columns::compare(plan, &wrong_columns::Wrong(Some(fault)))? {
+            tally.fault(fault, &report);
         }
     }
     Ok(())
@@ -125,6 +146,10 @@ const VALUE_PARTS: [(usize, Range<usize>); 8] = [
     (WRITE_OLD, PARTS - 1..PARTS + 2),
 ];
 
+/// The parts that are changed of columns and rows. They give a number alone; of the second buffer it is
+/// every place.
+const COLUMNS_PARTS: Range<usize> = PARTS - 1..PARTS + changed::BUFFER;
+
 /// How many changes were made, and how many of them were not caught.
 #[derive(Default)]
 struct Tally {
@@ -144,11 +169,20 @@ impl Tally {
     }
 
     /// Counts a fault: the report has to disagree.
-    fn fault(&mut self, fault: Fault, report: &Report) {
+    fn fault(&mut self, fault: impl Debug, report: &Report) {
         self.changes += 1;
         if report.agrees() {
             self.missed += 1;
             println!("{}: {fault:?}, and not caught", report.operation());
+        }
+    }
+
+    /// Counts what has faults without one: the report has to agree, so that a fault is all that is caught.
+    fn no_fault(&mut self, report: &Report) {
+        self.changes += 1;
+        if !report.agrees() {
+            self.missed += 1;
+            println!("{}: no fault, and one reported", report.operation());
         }
     }
 

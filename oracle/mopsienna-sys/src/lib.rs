@@ -75,6 +75,18 @@ impl fmt::Display for Reply {
 
 extern "C" {
     fn mopsienna_grow(page: u32, out: &mut Out) -> u32;
+    fn mopsienna_columns(
+        rows: *const u8,
+        rows_len: usize,
+        columns: *mut u8,
+        columns_len: usize,
+    ) -> u32;
+    fn mopsienna_rows(
+        columns: *const u8,
+        columns_len: usize,
+        rows: *mut u8,
+        rows_len: usize,
+    ) -> u32;
 }
 
 in_both! {
@@ -151,6 +163,35 @@ pub struct Lent {
 pub fn grow(page: u32) -> Reply {
     // SAFETY: the function writes only to the eight places of `out`.
     Reply::of(|out| unsafe { mopsienna_grow(page, out) })
+}
+
+/// Writes the columns of these rows to the start of the second buffer. It gives nothing but a number, and
+/// so does [`rows`]; the places of their replies are never touched.
+#[inline]
+pub fn columns(rows: &[u8], columns: &mut [u8]) -> Reply {
+    // SAFETY: the function reads only the rows, and writes only to the second buffer.
+    Reply::of(|_| unsafe {
+        mopsienna_columns(
+            rows.as_ptr(),
+            rows.len(),
+            columns.as_mut_ptr(),
+            columns.len(),
+        )
+    })
+}
+
+/// Writes the rows of these columns to the start of the second buffer.
+#[inline]
+pub fn rows(columns: &[u8], rows: &mut [u8]) -> Reply {
+    // SAFETY: the function reads only the columns, and writes only to the second buffer.
+    Reply::of(|_| unsafe {
+        mopsienna_rows(
+            columns.as_ptr(),
+            columns.len(),
+            rows.as_mut_ptr(),
+            rows.len(),
+        )
+    })
 }
 
 /// Totals, lists and saves. All is inlined, so that where the form is known it costs nothing to

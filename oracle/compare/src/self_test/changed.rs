@@ -2,6 +2,7 @@
 
 use super::{changed_if, PARTS};
 use crate::{
+    columns::{self, model::ROW, Way},
     saves::{self, FINISH, HAND_OUT, READ_BACK},
     values::{
         self,
@@ -15,15 +16,18 @@ use std::{
     collections::BTreeMap,
 };
 
+/// Of columns and rows, calls with a second buffer of so many places are changed.
+pub const BUFFER: usize = 25;
+
 /// The library, with one call of one operation changed. Operations are the reports of the comparison
-/// that it is given to, of saves or of values; that of lists has [`READ_BACK`] alone.
+/// that it is given to, of saves, of values or of columns and rows; that of lists has [`READ_BACK`] alone.
 pub struct Changed {
     operation: usize,
     change: Option<(u64, usize)>,
     calls: Cell<u64>,
     /// For each number that a call of the operation gives, in the panel's form and in any other, the first
     /// such call that was lent places of everything; of totals, the first with more pages than a cell has
-    /// numbers for.
+    /// numbers for; of columns and rows, the first of two rows' bytes or more with [`BUFFER`] places.
     pub first: RefCell<BTreeMap<(bool, u32), u64>>,
 }
 
@@ -189,6 +193,16 @@ impl values::Library for Changed {
     ) -> Reply {
         let reply = form.lookup(numbers, pending, store, page);
         self.pass(LOOKUP, form, reply, true, |_| ())
+    }
+}
+
+impl columns::Library for Changed {
+    fn rearrange(&self, way: Way, from: &[u8], to: &mut [u8]) -> Reply {
+        let reply = columns::Linked.rearrange(way, from, to);
+        let wanted = from.len() >= 2 * ROW && to.len() == BUFFER;
+        self.pass(way as usize, Form::Fixed, reply, wanted, |place| {
+            to[place] ^= 1
+        })
     }
 }
 

@@ -1,6 +1,6 @@
 // Columns before storage, and back. Neither depends on the page size.
 ghost use Rattle.columns.specs.Columns.{columns_of, rows_of};
-ghost use Rattle.calls.specs.Columns.{Rearranges};
+ghost use Rattle.calls.specs.Recordings.{Rearranges};
 
 use crate::told::status;
 

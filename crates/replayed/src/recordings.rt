@@ -11,7 +11,7 @@ pub fn columns(fields: &mut Fields<'_>) -> Result<(), Fault>
 {
     let rows = fields.array()?;
     let mut columns = fields.blank()?;
-    let status = calls::columns::columns(&rows, &mut columns);
+    let status = calls::recordings::columns(&rows, &mut columns);
     Ok(fields.expect_reply(status, &columns)?)
 }
 
@@ -21,6 +21,6 @@ pub fn rows(fields: &mut Fields<'_>) -> Result<(), Fault>
 {
     let columns = fields.array()?;
     let mut rows = fields.blank()?;
-    let status = calls::columns::rows(&columns, &mut rows);
+    let status = calls::recordings::rows(&columns, &mut rows);
     Ok(fields.expect_reply(status, &rows)?)
 }
