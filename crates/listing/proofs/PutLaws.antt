@@ -38,7 +38,7 @@ put_then {l} {m} {r} {i} {j} {k} {xs} {ys} first second =
     }
 
 -- the bytes that fit are all that is put
-sets_fitting : (l : List ℕ) (i : ℕ) (xs : List ℕ) → sets l i (take (min (length xs) (length l - i)) xs) ≡ sets l i xs
+pub sets_fitting : (l : List ℕ) (i : ℕ) (xs : List ℕ) → sets l i (take (min (length xs) (length l - i)) xs) ≡ sets l i xs
 sets_fitting l i xs = by (dec_le (length xs) (length l - i))
   where
     by : Dec (length xs ≤ length l - i) → sets l i (take (min (length xs) (length l - i)) xs) ≡ sets l i xs

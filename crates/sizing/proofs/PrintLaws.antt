@@ -46,6 +46,13 @@ pub print_text : (held-before held : Option (List ℕ)) (before : Output) {ready
 print_text held-before held before {ready} {after} {text} made room puts short =
     appends_then (printed held-before before) (printed held ready) (printed held after) [] text made (put_prints held puts (omega arith))
 
+-- a text, and nothing more behind it
+pub prints_more : (held-before held held-after : Option (List ℕ)) (before now after : Output) (text : List ℕ)
+    → PrintsOn held-before before text held now → PrintsOn held now [] held-after after → PrintsOn held-before before text held-after after
+prints_more held-before held held-after before now after text prints nothing =
+    let all = appends_then (printed held-before before) (printed held now) (printed held-after after) text [] prints nothing in
+    rw (append-nil text) at all
+
 pub on_ok_both : {T E P Q S : Type 0} (r : Result T E) → (P → Q → S) → OnOk r P → OnOk r Q → OnOk r S
 on_ok_both (Ok x) f p q = f p q
 on_ok_both (Err e) f p q = tt

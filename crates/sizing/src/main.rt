@@ -89,13 +89,14 @@ impl<W: Write> Printer<'_, W> {
         Ok(())
     }
 
-    // What is printed for a line.
+    // What is printed for a line. What then leaves no room for another text is written at once, before more is read.
     fn print_line(&mut self, line: Line) -> io::Result<()>
-        ensures { OnOk result (Prints W.contents self.old (size_text standard_page_size (accumulated_size line)) self.new) }
+        ensures room { OnOk result (self.new.output.next + max_text ≤ length self.new.output.buffer.now) }
+        ensures prints { OnOk result (Prints W.contents self.old (size_text standard_page_size (accumulated_size line)) self.new) }
     {
         self.make_room()?;
         self.output.put_line(line);
-        Ok(())
+        self.make_room()
     }
 
     // The last line, which lacks its newline, if it has a byte.

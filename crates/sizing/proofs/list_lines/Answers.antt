@@ -6,7 +6,7 @@ use Rattle.sizing.proofs.list_lines.Goals as goal
 
 pub loop-end-preserved : goal.loop-end-preserved
 loop-end-preserved g c =
-    let prints = rw c.with_bytes.ensures at c.in_ok-print_line.ensures in
+    let prints = rw c.with_bytes.ensures at c.in_ok-print_line.ensures.prints in
     let lists = lists_line c.loop-end.invariant.lists c.in-Some.end (g.W.Write.contents c.print_line.new.self.writer) c.print_line.new.self.output (sym c.in-Some.ensures.value) prints in
     record { shorter = search rules; lists = rw (c.new-line.ensures, take_rest c.loop-end.rest.now (c.in-Some.end + 1)) lists }
 
