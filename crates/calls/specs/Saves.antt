@@ -1,9 +1,12 @@
 -- The open save.
-use Rattle.std.specs.Prelude.{ℕ, ◌≡◌, List, [], ◌∷◌}
+use Rattle.std.specs.Prelude.{ℕ, ◌≡◌, List, [], ◌∷◌, Result, Ok, Err}
 use Rattle.refusal.specs.Effect.{Lent, LentMut, given, before, after, nothing, effect, called, left}
 use Rattle.allocator.specs.OpenSave.{Save, HandedOut, hand_out}
 use Rattle.allocator.specs.declared.save.Save.{Save as SaveStruct}
+use Rattle.allocator.specs.declared.save.OpenSave.{OpenSave}
 use Rattle.allocator.specs.declared.allocate.Handed.{Handed}
+use Rattle.page.specs.declared.number.PageNumber.{PageNumber}
+use Rattle.refusal.specs.declared.Refusal.{Refusal}
 use Rattle.finisher.specs.Finish.{FinishAnswer, finish_room, finish_lent, finish_into}
 
 -- an open save as a host lends it: its bump, recorded length, P, L and numbers handed out, and the two tables
@@ -19,6 +22,11 @@ save_of bump length p l count =
 -- the number, and how many numbers are handed out and the recorded length after it
 abbrev pub handed_values : HandedOut → List ℕ
 handed_values h = h.number ∷ h.save.handed ∷ h.save.recorded ∷ []
+
+-- what an open save answered, beside the save after it
+abbrev pub handed : Result PageNumber Refusal → OpenSave → Result Handed Refusal
+handed (Ok number) «open» = Ok (record { number = number; «open» = «open» })
+handed (Err r) «open» = Err r
 
 -- the same of what the code handed out
 abbrev pub handed_told : Handed → List ℕ

@@ -1,14 +1,15 @@
 // The open save: handing out numbers, and finishing.
 ghost use Rattle.std.specs.Prelude.{◌≡◌, [], ◌∷◌};
-ghost use Rattle.calls.specs.Saves.{save_of, handed_told, HandsOut, Finishes};
+ghost use Rattle.calls.specs.Saves.{save_of, handed, handed_told, HandsOut, Finishes};
 
 use crate::told::{Told, report};
-use allocator::allocate::{Handed, allocate};
-use allocator::save::{LentSave, OpenSave, Save, Start};
+use allocator::allocate::Handed;
+use allocator::save::{OpenSave, Save, Start};
 use finisher::finish::StoreMeta;
 use free_list::tables::Tables;
-use page::number::Allocations;
+use page::number::{Allocations, PageNumber};
 use page::size::PageSize;
+use refusal::Refusal;
 
 impl Told for Handed {
     ghost values = { handed_told };
@@ -50,6 +51,14 @@ fn save_of(bump: u32, length: u32, p: u64, l: u64, count: u64) -> Save
     }
 }
 
+// The number that an open save handed out, beside the save after it.
+fn handed(answer: Result<PageNumber, Refusal>, open: OpenSave) -> Result<Handed, Refusal>
+    ensures { result ≡ handed answer «open» }
+{
+    let number = answer?;
+    Ok(Handed { number, open })
+}
+
 // out: the number, the count of numbers handed out, the recorded length.
 pub fn hand_out(
     page_size: PageSize,
@@ -65,13 +74,9 @@ pub fn hand_out(
     ensures { HandsOut page_size bump length p l count pages entries out result }
 {
     let save = save_of(bump, length, p, l, count);
-    let lent = LentSave {
-        page_size,
-        save,
-        pages,
-        entries,
-    };
-    report(allocate(&lent), out)
+    let mut open = save.open;
+    let answer = open.hand_out(page_size, save.start, pages, entries);
+    report(handed(answer, open), out)
 }
 
 // out: head, bump, recorded length, P, L, pages written. Refusal 8: the place of the freed number.
