@@ -1,5 +1,5 @@
 -- What the next numbers of a line are.
-use Rattle.std.specs.Prelude.{ℕ, ◌≡◌, ◌≤◌, ◌++◌, List, ◌∷◌, All, length, Result, Err}
+use Rattle.std.specs.Prelude.{ℕ, ◌≡◌, ◌<◌, ◌≤◌, ◌++◌, List, ◌∷◌, All, length, Result, Err}
 
 -- a number that is refused
 abbrev pub IsRefused : {T E : Type 0} → (ℕ → Result T E → Type 0) → ℕ → Type 0
@@ -16,3 +16,7 @@ HasArray gives line = (items : List ℕ) × (rest : List ℕ) × (line ≡ lengt
 -- a count comes next that is no more than the numbers behind it
 abbrev pub HasRoom : List ℕ → Type 0
 HasRoom line = (count : ℕ) × (rest : List ℕ) × (line ≡ count ∷ rest) × (count ≤ length rest)
+
+-- a count comes next that is above the most
+abbrev pub HasTooMany : ℕ → List ℕ → Type 0
+HasTooMany most line = (count : ℕ) × (rest : List ℕ) × (line ≡ count ∷ rest) × (most < count)

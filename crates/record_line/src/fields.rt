@@ -1,11 +1,13 @@
 // The numbers of a line, taken off its front.
-ghost use Rattle.std.specs.Prelude.{◌≡◌, ◌≢◌, ◌↔◌, ◌≤◌, ℕ, List, [], ◌∷◌, ◌++◌, Ok, IsOk, IfOk, IsErrOf, OnOk, OnErr, MatchOption, length, map, vec_len};
+ghost use Rattle.std.specs.Prelude.{◌≡◌, ◌≢◌, ◌↔◌, ◌≤◌, ℕ, List, [], ◌∷◌, ◌++◌, Ok, IsOk, IfOk, IsErrOf, OnOk, OnErr, MatchOption, length, map};
 ghost use Rattle.std.specs.List.{AllClonesOf};
 ghost use Rattle.std.proofs.Common.{rules};
-ghost use Rattle.record_line.specs.Fields.{NoneFits, HasArray, HasRoom};
+ghost use Rattle.arrayvec.specs.ArrayVec.{array_vec_len};
+ghost use Rattle.record_line.specs.Fields.{NoneFits, HasArray, HasRoom, HasTooMany};
 
+use crate::MOST;
 use crate::fault::{Fault, WrongLine};
-use std::alloc::Global;
+use arrayvec::ArrayVec;
 use std::marker::Model;
 use std::num::TryFromIntError;
 
@@ -49,10 +51,9 @@ impl Number for u64 {
     ghost to_number = { Prim.search rules };
 }
 
-// The numbers that are not taken yet: clauses see the list of these. What is taken lies in memory of the allocator.
+// The numbers that are not taken yet: clauses see the list of these.
 #[derive(Drop)]
 pub struct Fields<'a> {
-    alloc: Global,
     rest: &'a [u64],
 }
 
@@ -63,10 +64,10 @@ impl<'a> Model for Fields<'a> {
 }
 
 impl<'a> Fields<'a> {
-    pub fn new(alloc: Global, line: &'a [u64]) -> Fields<'a>
+    pub fn new(line: &'a [u64]) -> Fields<'a>
         ensures { result ≡ line.now }
     {
-        Fields { alloc, rest: line }
+        Fields { rest: line }
     }
 
     // The next number, if one is left.
@@ -87,29 +88,44 @@ impl<'a> Fields<'a> {
         T::try_from(number).map_err(|_| WrongLine)
     }
 
-    // The array that comes next, as its length and its elements.
-    pub fn array<T: Number + Drop>(&mut self) -> Result<Vec<T>, Fault>
-        ensures ok { IfOk result (λ v. self.old ≡ vec_len v ∷ (map T.number v.items ++ self.new)) }
+    // Takes the array that comes next, as its length and its elements, in place of what `items` had. It has room for `MOST`. The caller
+    // owns it, since an array that is handed back would be copied.
+    pub fn array<T: Number + Default + Drop>(
+        &mut self,
+        items: &mut ArrayVec<T, MOST>,
+    ) -> Result<(), Fault>
+        ensures ok { OnOk result (self.old ≡ array_vec_len items.new ∷ (map T.number items.new.items ++ self.new)) }
         ensures wrong { IsErrOf result Fault.Wrong → ¬ (HasArray T.try_from_gives self.old) }
+        ensures memory { IsErrOf result Fault.OutOfMemory → HasTooMany MOST self.old }
     {
         let count = self.next().ok_or(WrongLine)?;
-        let mut items = Vec::new(self.alloc);
+        items.clear();
         for _i in 0..count {
-            items.push(self.number()?)?;
+            items.try_push(self.number()?)?;
         }
-        Ok(items)
+        Ok(())
     }
 
-    // An array to be lent, as long as the next number says. None is longer than the rest of the line, where its elements stand.
-    pub fn blank<T: Clone + Drop + From<u8>>(&mut self) -> Result<Vec<T>, Fault>
-        ensures length { IfOk result (λ v. self.old ≡ vec_len v ∷ self.new) }
-        ensures room { IfOk result (λ v. vec_len v ≤ length self.new) }
-        ensures filled { IfOk result (λ v. (x : T) × T.from_gives FILLER x × AllClonesOf T.is_clone x v.items) }
+    // Makes an array to be lent, as long as the next number says, in the same way. None is longer than the rest of the line, where its
+    // elements stand.
+    pub fn blank<T: Copy + Default + Drop + From<u8>>(
+        &mut self,
+        items: &mut ArrayVec<T, MOST>,
+    ) -> Result<(), Fault>
+        ensures length { OnOk result (self.old ≡ array_vec_len items.new ∷ self.new) }
+        ensures room { OnOk result (array_vec_len items.new ≤ length self.new) }
+        ensures filled { OnOk result ((x : T) × T.from_gives FILLER x × AllClonesOf T.is_clone x items.new.items) }
         ensures wrong { IsErrOf result Fault.Wrong → ¬ (HasRoom self.old) }
+        ensures memory { IsErrOf result Fault.OutOfMemory → HasTooMany MOST self.old }
     {
         let count = self.next().ok_or(WrongLine)? as usize;
         WrongLine::unless(count <= self.rest.len())?;
-        Ok(vec![in self.alloc; T::from(FILLER); count]?)
+        let filler = T::from(FILLER);
+        items.clear();
+        for _i in 0..count {
+            items.try_push(filler)?;
+        }
+        Ok(())
     }
 
     // Takes this number, which has to come next.

@@ -3,6 +3,10 @@
 
 pub mod fault;
 pub mod fields;
+pub mod reading;
 #[cfg(test)]
 mod tests;
 pub mod text;
+
+// A line has at most so many numbers, and so none of its arrays has more elements.
+pub const MOST: usize = 32768;

@@ -1,79 +1,129 @@
 // Makes calls that were recorded with their answers, and compares what they give now.
 //
 // Each line of standard input is one call: its kind, what goes in and what has to come out, as the crate `replayed` says of each. What depends on
-// the page size has it in its line. A line that starts with `#` is skipped.
+// the page size has it in its line. A line that starts with `#` is skipped. A line of any length is read in the same memory.
 #![tactic(auto)]
 
-use record_line::text::numbers;
-use replayed::replay;
-use std::alloc::Global;
-use std::io::{self, BufRead, BufReader};
+ghost use Rattle.std.specs.Prelude.{ℕ, List, [], IsTrue};
+ghost use Rattle.record_line.specs.Text.{IsLine, numbers_of};
+ghost use Rattle.record_line.specs.Reading.{Reads};
+ghost use Rattle.replayed.specs.Kind.{NamesKind};
 
-// A line has at most so many numbers; one with more is wrong.
-const MOST: usize = 32768;
+use record_line::reading::Reading;
+use replayed::replay;
+use std::io::Read;
 
 // So many wrong lines are named.
 const MOST_NAMED: u64 = 10;
 
-// How many calls there were, and how many of them wrong.
-#[derive(Clone, Copy)]
-struct Counts {
+// What the line at hand is, by its first byte.
+#[derive(Clone, Copy, PartialEq, Eq)]
+enum Line {
+    Empty,
+    Call,
+    Skipped,
+}
+
+// How far the replay is: the line at hand, and how many lines, calls and wrong ones there were.
+#[derive(Drop)]
+struct Replay {
+    line: Line,
+    reading: Reading,
+    lines: u64,
     calls: u64,
     wrong: u64,
 }
 
-fn main(rt: HostRuntime) -> io::Result<()> {
-    let alloc = rt.alloc();
-    let mut input = BufReader::new(alloc, rt.reader())?;
-    let Counts { calls, wrong } = replay_all(&rt, alloc, &mut input);
-    let _ = println!(rt; "replayed {calls} calls, {wrong} wrong");
-    Ok(())
+fn main(rt: HostRuntime) {
+    let mut replay = Replay::new();
+    replay.read_all(&rt, &mut rt.stdin());
+    replay.print_counts(&rt);
 }
 
-// Replays each line. Input that cannot be read ends there, with what was read of its last line.
-fn replay_all<R: BufRead>(rt: &impl Print, alloc: Global, input: &mut R) -> Counts {
-    let mut counts = Counts { calls: 0, wrong: 0 };
-    let mut line = Vec::new(alloc);
-    // A proved loop has to end, and nothing says that the input does: no run uses up the turns.
-    for number in 1..u64::MAX {
-        line.clear();
-        let ended = input.read_until(b'\n', &mut line).is_err();
-        if line.is_empty() {
-            break;
-        }
-        let bytes = line.strip_suffix(b"\n").unwrap_or(&line);
-        counts = replay_line(rt, alloc, counts, number, bytes);
-        if ended {
-            break;
+impl Replay {
+    fn new() -> Replay {
+        Replay {
+            line: Line::Empty,
+            reading: Reading::new(),
+            lines: 0,
+            calls: 0,
+            wrong: 0,
         }
     }
-    counts
-}
 
-// Replays a line, and names it if it is one of the first wrong ones. What cannot be written is left out.
-fn replay_line(rt: &impl Print, alloc: Global, before: Counts, number: u64, line: &[u8]) -> Counts {
-    let mut counts = before;
-    if line.starts_with(b"#") {
-        return counts;
+    // Replays each line. Input that cannot be read ends there, with what was read of its last line.
+    fn read_all(&mut self, rt: &impl Print, reader: &mut impl Read) {
+        let mut input = [0u8; 65536];
+        // A proved loop has to end, and nothing says that the input does: no run uses up the turns.
+        for _ in 0..u64::MAX {
+            let count = reader.read(&mut input).unwrap_or(0);
+            if count == 0 {
+                break;
+            }
+            self.read_bytes(rt, &input[..count]);
+        }
+        if self.line != Line::Empty {
+            self.end_line(rt);
+        }
     }
-    counts.calls = counts.calls.saturating_add(1);
-    if is_right(alloc, line) {
-        return counts;
-    }
-    counts.wrong = counts.wrong.saturating_add(1);
-    if counts.wrong <= MOST_NAMED {
-        let _ = println!(rt; "line {number} wrong");
-    }
-    counts
-}
 
-// Whether the call of a line gives what stands there.
-fn is_right(alloc: Global, line: &[u8]) -> bool {
-    let Ok(text) = str::from_utf8(line) else {
-        return false;
-    };
-    match numbers(alloc, text) {
-        Ok(line) => line.len() <= MOST && replay(alloc, &line),
-        Err(_) => false,
+    // Reads bytes, and replays the lines that end in them.
+    fn read_bytes(&mut self, rt: &impl Print, bytes: &[u8]) {
+        for &byte in bytes {
+            self.read_byte(rt, byte);
+        }
+    }
+
+    fn read_byte(&mut self, rt: &impl Print, byte: u8) {
+        match (self.line, byte) {
+            (_, b'\n') => self.end_line(rt),
+            (Line::Skipped, _) => {}
+            (Line::Empty, b'#') => self.line = Line::Skipped,
+            _ => {
+                self.line = Line::Call;
+                self.reading.push(byte);
+            }
+        }
+    }
+
+    // Replays the line that ends, if it is not skipped, and begins another.
+    fn end_line(&mut self, rt: &impl Print) {
+        self.lines = self.lines.saturating_add(1);
+        if self.line != Line::Skipped {
+            self.replay_line(rt);
+        }
+        self.line = Line::Empty;
+    }
+
+    // Replays the line at hand, and names it if it is one of the first wrong ones. What cannot be written is left out.
+    fn replay_line(&mut self, rt: &impl Print) {
+        self.calls = self.calls.saturating_add(1);
+        if self.is_right() {
+            return;
+        }
+        self.wrong = self.wrong.saturating_add(1);
+        if self.wrong <= MOST_NAMED {
+            let line = self.lines;
+            let _ = println!(rt; "line {line} wrong");
+        }
+    }
+
+    // Whether the call of the line that ends gives what stands there. Another line begins.
+    fn is_right(&mut self) -> bool
+        ensures right { (bytes : List ℕ) → Reads self.old.reading bytes → IsTrue result → IsLine bytes × NamesKind (numbers_of bytes) }
+        ensures begins { Reads self.new.reading [] }
+    {
+        let right = match self.reading.numbers() {
+            Ok(line) => replay(line),
+            Err(_) => false,
+        };
+        self.reading.clear();
+        right
+    }
+
+    fn print_counts(&self, rt: &impl Print) {
+        let calls = self.calls;
+        let wrong = self.wrong;
+        let _ = println!(rt; "replayed {calls} calls, {wrong} wrong");
     }
 }

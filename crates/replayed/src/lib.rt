@@ -11,7 +11,6 @@ use crate::kind::Kind;
 use record_line::fault::Fault;
 use record_line::fields::Fields;
 use replayed_values::values;
-use std::alloc::Global;
 
 mod kind;
 mod lists;
@@ -22,17 +21,17 @@ mod tests;
 mod totals;
 
 // Whether the call that the first number names gives what stands behind. A line for which there is no memory is not right.
-pub fn replay(alloc: Global, line: &[u64]) -> bool
+pub fn replay(line: &[u64]) -> bool
     ensures { result ≡ true → NamesKind line.now }
 {
-    replay_line(alloc, line).is_ok()
+    replay_line(line).is_ok()
 }
 
 // `Wrong` says that the call gives other numbers than the line, or that there is no such call.
-fn replay_line(alloc: Global, line: &[u64]) -> Result<(), Fault>
+fn replay_line(line: &[u64]) -> Result<(), Fault>
     ensures { OnOk result (NamesKind line.now) }
 {
-    let mut fields = Fields::new(alloc, line);
+    let mut fields = Fields::new(line);
     let kind = Kind::try_from(fields.number::<u64>()?)?;
     replay_kind(kind, &mut fields)?;
     Ok(fields.expect_end()?)

@@ -2,6 +2,7 @@
 ghost use Rattle.std.specs.Prelude.{OnOk};
 ghost use Rattle.replayed_values.specs.Taken.{TakesAtLeast};
 
+use arrayvec::ArrayVec;
 use calls::saves;
 use free_list::page_ref::FreeListPageRef;
 use lookup::lookup::lookup;
@@ -18,10 +19,14 @@ pub fn read_list(fields: &mut Fields<'_>) -> Result<(), Fault>
 {
     let page_size = page_size(fields)?;
     let head = fields.number()?;
-    let store = fields.array()?;
-    let mut pages = fields.blank()?;
-    let mut entries = fields.blank()?;
-    let mut map = fields.blank()?;
+    let mut store = ArrayVec::new();
+    fields.array(&mut store)?;
+    let mut pages = ArrayVec::new();
+    fields.blank(&mut pages)?;
+    let mut entries = ArrayVec::new();
+    fields.blank(&mut entries)?;
+    let mut map = ArrayVec::new();
+    fields.blank(&mut map)?;
     let mut out = BLANK_OUT;
     let status = calls::lists::read_list(
         page_size,
@@ -90,8 +95,10 @@ pub fn hand_out(fields: &mut Fields<'_>) -> Result<(), Fault>
     ensures { OnOk result (TakesAtLeast 17 fields.old fields.new) }
 {
     let save = Opened::take(fields)?;
-    let pages = fields.array()?;
-    let entries = fields.array()?;
+    let mut pages = ArrayVec::new();
+    fields.array(&mut pages)?;
+    let mut entries = ArrayVec::new();
+    fields.array(&mut entries)?;
     let mut out = BLANK_OUT;
     let status = saves::hand_out(
         save.page_size,
@@ -112,12 +119,18 @@ pub fn finish(fields: &mut Fields<'_>) -> Result<(), Fault>
     ensures { OnOk result (TakesAtLeast 21 fields.old fields.new) }
 {
     let save = Opened::take(fields)?;
-    let mut pages = fields.array()?;
-    let mut entries = fields.array()?;
-    let freed = fields.array()?;
-    let mut buffer = fields.blank()?;
-    let mut numbers = fields.blank()?;
-    let mut map = fields.blank()?;
+    let mut pages = ArrayVec::new();
+    fields.array(&mut pages)?;
+    let mut entries = ArrayVec::new();
+    fields.array(&mut entries)?;
+    let mut freed = ArrayVec::new();
+    fields.array(&mut freed)?;
+    let mut buffer = ArrayVec::new();
+    fields.blank(&mut buffer)?;
+    let mut numbers = ArrayVec::new();
+    fields.blank(&mut numbers)?;
+    let mut map = ArrayVec::new();
+    fields.blank(&mut map)?;
     let mut out = BLANK_OUT;
     let status = saves::finish(
         save.page_size,

@@ -2,6 +2,7 @@
 ghost use Rattle.std.specs.Prelude.{OnOk};
 ghost use Rattle.replayed_values.specs.Taken.{TakesAtLeast};
 
+use arrayvec::ArrayVec;
 use lookup::find::Pending;
 use page::number::PageNumber;
 use page::store::Store;
@@ -15,9 +16,12 @@ pub fn lookup(fields: &mut Fields<'_>) -> Result<(), Fault>
 {
     let page_size = page_size(fields)?;
     let number = fields.number()?;
-    let numbers = fields.array()?;
-    let pending = fields.array()?;
-    let store = fields.array()?;
+    let mut numbers = ArrayVec::new();
+    fields.array(&mut numbers)?;
+    let mut pending = ArrayVec::new();
+    fields.array(&mut pending)?;
+    let mut store = ArrayVec::new();
+    fields.array(&mut store)?;
     let mut out = BLANK_OUT;
     let status = calls::lookups::lookup(page_size, &numbers, &pending, &store, number, &mut out);
     let page = lookup::lookup::lookup(

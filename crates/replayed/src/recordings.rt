@@ -2,6 +2,7 @@
 ghost use Rattle.std.specs.Prelude.{OnOk};
 ghost use Rattle.replayed_values.specs.Taken.{TakesAtLeast};
 
+use arrayvec::ArrayVec;
 use record_line::fault::Fault;
 use record_line::fields::Fields;
 
@@ -9,8 +10,10 @@ use record_line::fields::Fields;
 pub fn columns(fields: &mut Fields<'_>) -> Result<(), Fault>
     ensures { OnOk result (TakesAtLeast 3 fields.old fields.new) }
 {
-    let rows = fields.array()?;
-    let mut columns = fields.blank()?;
+    let mut rows = ArrayVec::new();
+    fields.array(&mut rows)?;
+    let mut columns = ArrayVec::new();
+    fields.blank(&mut columns)?;
     let status = calls::recordings::columns(&rows, &mut columns);
     Ok(fields.expect_reply(status, &columns)?)
 }
@@ -19,8 +22,10 @@ pub fn columns(fields: &mut Fields<'_>) -> Result<(), Fault>
 pub fn rows(fields: &mut Fields<'_>) -> Result<(), Fault>
     ensures { OnOk result (TakesAtLeast 3 fields.old fields.new) }
 {
-    let columns = fields.array()?;
-    let mut rows = fields.blank()?;
+    let mut columns = ArrayVec::new();
+    fields.array(&mut columns)?;
+    let mut rows = ArrayVec::new();
+    fields.blank(&mut rows)?;
     let status = calls::recordings::rows(&columns, &mut rows);
     Ok(fields.expect_reply(status, &rows)?)
 }

@@ -7,7 +7,7 @@ use std::test::Fail;
 #[test]
 fn grows(rt: HostRuntime) {
     let line = [1, 2, 0, 16384, 9, 9, 9, 9, 9, 9, 9];
-    assert!(rt; replay(rt.alloc(), &line));
+    assert!(rt; replay(&line));
 }
 
 // A list of one page, with one entry, in a store of three pages.
@@ -17,7 +17,7 @@ fn reads_a_list(rt: HostRuntime) -> Result<(), Fail> {
         rt.alloc(),
         "3 16 1 48 0 0 0 0 0 0 0 0 0 0 0 0 0 0 0 0 0 0 0 0 1 0 2 0 0 0 0 0 0 0 0 0 0 0 0 0 0 0 0 0 0 0 0 0 0 0 0 0 1 1 1 0 1 1 9 9 9 9 9 9 1 2 0",
     )?;
-    assert!(rt; replay(rt.alloc(), &line));
+    assert!(rt; replay(&line));
     Ok(())
 }
 
@@ -28,7 +28,7 @@ fn hands_out(rt: HostRuntime) -> Result<(), Fail> {
         rt.alloc(),
         "4 1024 26 8192 0 0 77 0 0 0 103 78 8192 9 9 9 9 9",
     )?;
-    assert!(rt; replay(rt.alloc(), &line));
+    assert!(rt; replay(&line));
     Ok(())
 }
 
@@ -39,7 +39,7 @@ fn finishes(rt: HostRuntime) -> Result<(), Fail> {
         rt.alloc(),
         "5 1024 18 16384 0 0 0 0 0 0 0 0 3 0 0 18 16384 0 0 0 9 9 0 0 0",
     )?;
-    assert!(rt; replay(rt.alloc(), &line));
+    assert!(rt; replay(&line));
     Ok(())
 }
 
@@ -50,7 +50,7 @@ fn looks_up(rt: HostRuntime) -> Result<(), Fail> {
         rt.alloc(),
         "11 16 0 0 0 16 7 146 119 186 220 134 225 93 75 100 133 201 202 17 90 20 0 1 0 9 9 9 9 9 9",
     )?;
-    assert!(rt; replay(rt.alloc(), &line));
+    assert!(rt; replay(&line));
     Ok(())
 }
 
@@ -62,7 +62,7 @@ fn makes_columns(rt: HostRuntime) -> Result<(), Fail> {
         "13 24 208 7 220 5 44 1 60 0 218 7 210 5 44 1 61 0 213 7 215 5 54 1 60 0 25 0 208 7 10 0 251 255 220 5 246 255 5 0 44 1 0 0 10 0 60 0 1 0 \
          255 255 9",
     )?;
-    assert!(rt; replay(rt.alloc(), &line));
+    assert!(rt; replay(&line));
     Ok(())
 }
 
@@ -70,6 +70,6 @@ fn makes_columns(rt: HostRuntime) -> Result<(), Fail> {
 #[test]
 fn makes_no_rows(rt: HostRuntime) -> Result<(), Fail> {
     let line = numbers(rt.alloc(), "14 9 1 2 3 4 5 6 7 8 9 2 26 9 9")?;
-    assert!(rt; replay(rt.alloc(), &line));
+    assert!(rt; replay(&line));
     Ok(())
 }

@@ -3,6 +3,7 @@ ghost use Rattle.std.specs.Prelude.{OnOk};
 ghost use Rattle.replayed_values.specs.Taken.{TakesAtLeast};
 
 use crate::pages::{NONE_PENDING, agrees, page_size};
+use arrayvec::ArrayVec;
 use calls::values;
 use lookup::lookup::lookup;
 use overflow::page_ref::ValuePageRef;
@@ -32,9 +33,12 @@ fn write_page_by(fields: &mut Fields<'_>, rule: TotalRule) -> Result<(), Fault>
 {
     let page_size = page_size(fields)?;
     let index = fields.number()?;
-    let value = fields.array()?;
-    let numbers = fields.array()?;
-    let mut page = fields.blank()?;
+    let mut value = ArrayVec::new();
+    fields.array(&mut value)?;
+    let mut numbers = ArrayVec::new();
+    fields.array(&mut numbers)?;
+    let mut page = ArrayVec::new();
+    fields.blank(&mut page)?;
     let status = values::write_value_page(page_size, rule, &value, &numbers, index, &mut page);
     Ok(fields.expect_reply(status, &page)?)
 }
@@ -44,9 +48,12 @@ pub fn encode_cell(fields: &mut Fields<'_>) -> Result<(), Fault>
     ensures { OnOk result (TakesAtLeast 37 fields.old fields.new) }
 {
     let size = fields.number()?;
-    let hash = fields.array::<u8>()?;
-    let numbers = fields.array()?;
-    let mut cell = fields.blank()?;
+    let mut hash = ArrayVec::new();
+    fields.array::<u8>(&mut hash)?;
+    let mut numbers = ArrayVec::new();
+    fields.array(&mut numbers)?;
+    let mut cell = ArrayVec::new();
+    fields.blank(&mut cell)?;
     let hash = hash.as_array().ok_or(WrongLine)?;
     let status = values::encode_cell(PageSize::standard(), size, hash, &numbers, &mut cell);
     Ok(fields.expect_reply(status, &cell)?)
@@ -56,7 +63,8 @@ pub fn encode_cell(fields: &mut Fields<'_>) -> Result<(), Fault>
 pub fn decode_cell(fields: &mut Fields<'_>) -> Result<(), Fault>
     ensures { OnOk result (TakesAtLeast 42 fields.old fields.new) }
 {
-    let cell = fields.array()?;
+    let mut cell = ArrayVec::new();
+    fields.array(&mut cell)?;
     let mut hash = [FILLER; 32];
     let mut out = BLANK_OUT;
     let status = values::decode_cell(PageSize::standard(), &cell, &mut hash, &mut out);
@@ -69,10 +77,14 @@ pub fn read_value(fields: &mut Fields<'_>) -> Result<(), Fault>
     ensures { OnOk result (TakesAtLeast 14 fields.old fields.new) }
 {
     let page_size = page_size(fields)?;
-    let cell = fields.array()?;
-    let store = fields.array()?;
-    let mut numbers = fields.blank()?;
-    let mut value = fields.blank()?;
+    let mut cell = ArrayVec::new();
+    fields.array(&mut cell)?;
+    let mut store = ArrayVec::new();
+    fields.array(&mut store)?;
+    let mut numbers = ArrayVec::new();
+    fields.blank(&mut numbers)?;
+    let mut value = ArrayVec::new();
+    fields.blank(&mut value)?;
     let mut out = BLANK_OUT;
     let status = values::read_value(page_size, &cell, &store, &mut numbers, &mut value, &mut out);
     if status == 0 {
@@ -105,9 +117,12 @@ pub fn delete_value(fields: &mut Fields<'_>) -> Result<(), Fault>
     ensures { OnOk result (TakesAtLeast 13 fields.old fields.new) }
 {
     let page_size = page_size(fields)?;
-    let cell = fields.array()?;
-    let store = fields.array()?;
-    let mut numbers = fields.blank()?;
+    let mut cell = ArrayVec::new();
+    fields.array(&mut cell)?;
+    let mut store = ArrayVec::new();
+    fields.array(&mut store)?;
+    let mut numbers = ArrayVec::new();
+    fields.blank(&mut numbers)?;
     let mut out = BLANK_OUT;
     let status = values::delete_value(page_size, &cell, &store, &mut numbers, &mut out);
     fields.expect_reply(status, &out)?;

@@ -1,0 +1,2 @@
+-- Laws about a line that is read byte by byte.
+pub mod ReadingLaws
