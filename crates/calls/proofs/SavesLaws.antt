@@ -8,7 +8,8 @@ use Rattle.refusal.specs.Refusals.{outcome}
 use Rattle.refusal.specs.Effect.{nothing, Effect, effect, leaves, Called, called}
 use Rattle.refusal.specs.declared.Refusal.{Refusal}
 use Rattle.allocator.specs.OpenSave.{Save, HandedOut, hand_out, Counters, counters, count_up}
-use Rattle.allocator.specs.Answers.{handed_outcome, counters_of}
+use Rattle.allocator.specs.Answers.{handed_effect, handed_outcome, counters_of}
+use Rattle.allocator.specs.declared.allocate.Handed.{Handed}
 use Rattle.allocator.specs.declared.save.OpenSave.{OpenSave}
 use Rattle.page.specs.declared.number.PageNumber.{PageNumber}
 use Rattle.calls.specs.Saves.{handed, handed_values, handed_told}
@@ -29,12 +30,21 @@ handed_out s v out = by_outcome (hand_out s v)
     by_outcome (answer h) = refl
     by_outcome (refused number values) = refl
 
-as_told : (r : Result PageNumber Refusal) (k : OpenSave) (out : List ℕ)
-    → called (λ vs. vs) out (effect (outcome handed_told (handed r k)) nothing) ≡ counted out (effect (handed_outcome r) (counters_of k))
-as_told (Ok number) k out = refl
-as_told (Err r) k out = refl
+as_told : (k : Counters) (out : List ℕ) (r : Result Handed Refusal) → called (λ vs. vs) out (effect (outcome handed_told r) nothing) ≡ counted out (handed_effect k r)
+as_told k out (Ok h) = refl
+as_told k out (Err r) = refl
+
+-- what the code answered, told as it stands
+pub hands_out : (s : ℕ) (v : Save) (out : List ℕ) (r : Result Handed Refusal) → handed_effect (counters v) r ≡ count_up s v
+    → called (λ vs. vs) out (effect (outcome handed_told r) nothing) ≡ called handed_values out (effect (hand_out s v) nothing)
+hands_out s v out r e = as_told (counters v) out r ∙ ap (counted out) e ∙ handed_out s v out
+
+-- an answer beside the open save, and with it inside, leaves the same
+beside : (r : Result PageNumber Refusal) (k : OpenSave) → handed_effect (counters_of k) (handed r k) ≡ effect (handed_outcome r) (counters_of k)
+beside (Ok number) k = refl
+beside (Err r) k = refl
 
 -- what the open save answered, told as it stands
-pub hands_out : (s : ℕ) (v : Save) (out : List ℕ) (r : Result PageNumber Refusal) (k : OpenSave) → effect (handed_outcome r) (counters_of k) ≡ count_up s v
+pub open_save_hands_out : (s : ℕ) (v : Save) (out : List ℕ) (r : Result PageNumber Refusal) (k : OpenSave) → effect (handed_outcome r) (counters_of k) ≡ count_up s v
     → called (λ vs. vs) out (effect (outcome handed_told (handed r k)) nothing) ≡ called handed_values out (effect (hand_out s v) nothing)
-hands_out s v out r k e = as_told r k out ∙ ap (counted out) e ∙ handed_out s v out
+open_save_hands_out s v out r k e = as_told (counters_of k) out (handed r k) ∙ ap (counted out) (beside r k ∙ e) ∙ handed_out s v out

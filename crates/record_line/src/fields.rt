@@ -1,5 +1,5 @@
 // The numbers of a line, taken off its front.
-ghost use Rattle.std.specs.Prelude.{◌≡◌, ◌≢◌, ◌↔◌, ◌≤◌, ℕ, List, [], ◌∷◌, ◌++◌, Ok, IsOk, IfOk, IsErrOf, OnOk, OnErr, MatchOption, length, map};
+ghost use Rattle.std.specs.Prelude.{◌≡◌, ◌≢◌, ◌↔◌, ◌≤◌, ℕ, List, [], ◌∷◌, ◌++◌, Ok, IsOk, IfOk, IsErrOf, OnOk, OnErr, MatchOption, length, map, vec_len};
 ghost use Rattle.std.specs.List.{AllClonesOf};
 ghost use Rattle.std.proofs.Common.{rules};
 ghost use Rattle.arrayvec.specs.ArrayVec.{array_vec_len};
@@ -8,6 +8,7 @@ ghost use Rattle.record_line.specs.Fields.{NoneFits, HasArray, HasRoom, HasTooMa
 use crate::MOST;
 use crate::fault::{Fault, WrongLine};
 use arrayvec::ArrayVec;
+use std::alloc::{AllocError, Global};
 use std::marker::Model;
 use std::num::TryFromIntError;
 
@@ -51,9 +52,11 @@ impl Number for u64 {
     ghost to_number = { Prim.search rules };
 }
 
-// The numbers that are not taken yet: clauses see the list of these.
+// The numbers that are not taken yet: clauses see the list of these. `array` and `blank` take memory of the allocator, `array_into` and
+// `blank_into` a place of the caller's.
 #[derive(Drop)]
 pub struct Fields<'a> {
+    alloc: Option<Global>,
     rest: &'a [u64],
 }
 
@@ -64,10 +67,22 @@ impl<'a> Model for Fields<'a> {
 }
 
 impl<'a> Fields<'a> {
-    pub fn new(line: &'a [u64]) -> Fields<'a>
+    pub fn new(alloc: Global, line: &'a [u64]) -> Fields<'a>
         ensures { result ≡ line.now }
     {
-        Fields { rest: line }
+        let mut fields = Fields::without_memory(line);
+        fields.alloc = Some(alloc);
+        fields
+    }
+
+    // The same without an allocator: `array` and `blank` then answer `OutOfMemory`.
+    pub fn without_memory(line: &'a [u64]) -> Fields<'a>
+        ensures { result ≡ line.now }
+    {
+        Fields {
+            alloc: None,
+            rest: line,
+        }
     }
 
     // The next number, if one is left.
@@ -88,9 +103,36 @@ impl<'a> Fields<'a> {
         T::try_from(number).map_err(|_| WrongLine)
     }
 
+    // The array that comes next, as its length and its elements.
+    pub fn array<T: Number + Drop>(&mut self) -> Result<Vec<T>, Fault>
+        ensures ok { IfOk result (λ v. self.old ≡ vec_len v ∷ (map T.number v.items ++ self.new)) }
+        ensures wrong { IsErrOf result Fault.Wrong → ¬ (HasArray T.try_from_gives self.old) }
+    {
+        let alloc = self.alloc.ok_or(AllocError)?;
+        let length = self.next().ok_or(WrongLine)?;
+        let mut items = Vec::new(alloc);
+        for _i in 0..length {
+            items.push(self.number()?)?;
+        }
+        Ok(items)
+    }
+
+    // An array to be lent, as long as the next number says. None is longer than the rest of the line, where its elements stand.
+    pub fn blank<T: Clone + Drop + From<u8>>(&mut self) -> Result<Vec<T>, Fault>
+        ensures length { IfOk result (λ v. self.old ≡ vec_len v ∷ self.new) }
+        ensures room { IfOk result (λ v. vec_len v ≤ length self.new) }
+        ensures filled { IfOk result (λ v. (x : T) × T.from_gives FILLER x × AllClonesOf T.is_clone x v.items) }
+        ensures wrong { IsErrOf result Fault.Wrong → ¬ (HasRoom self.old) }
+    {
+        let alloc = self.alloc.ok_or(AllocError)?;
+        let length = self.next().ok_or(WrongLine)? as usize;
+        WrongLine::unless(length <= self.rest.len())?;
+        Ok(vec![in alloc; T::from(FILLER); length]?)
+    }
+
     // Takes the array that comes next, as its length and its elements, in place of what `items` had. It has room for `MOST`. The caller
     // owns it, since an array that is handed back would be copied.
-    pub fn array<T: Number + Default + Drop>(
+    pub fn array_into<T: Number + Default + Drop>(
         &mut self,
         items: &mut ArrayVec<T, MOST>,
     ) -> Result<(), Fault>
@@ -100,7 +142,7 @@ impl<'a> Fields<'a> {
     {
         let count = self.next().ok_or(WrongLine)?;
         items.clear();
-        for _i in 0..count {
+        for _element in 0..count {
             items.try_push(self.number()?)?;
         }
         Ok(())
@@ -108,7 +150,7 @@ impl<'a> Fields<'a> {
 
     // Makes an array to be lent, as long as the next number says, in the same way. None is longer than the rest of the line, where its
     // elements stand.
-    pub fn blank<T: Copy + Default + Drop + From<u8>>(
+    pub fn blank_into<T: Copy + Default + Drop + From<u8>>(
         &mut self,
         items: &mut ArrayVec<T, MOST>,
     ) -> Result<(), Fault>

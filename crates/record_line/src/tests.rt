@@ -1,4 +1,4 @@
-// Memory that suffices: a line is read, at once and byte by byte, and arrays are taken off its front.
+// Memory that suffices: a line is read, at once and byte by byte, and arrays are taken off its front, into memory and into places lent for them.
 use crate::MOST;
 use crate::fields::Fields;
 use crate::reading::Reading;
@@ -8,13 +8,36 @@ use std::test::Fail;
 
 #[test]
 fn reads_a_line(rt: HostRuntime) -> Result<(), Fail> {
-    let line = numbers(rt.alloc(), "2 300 7 1 0")?;
-    let mut fields = Fields::new(&line);
+    let alloc = rt.alloc();
+    let line = numbers(alloc, "2 300 7 1 0")?;
+    let mut fields = Fields::new(alloc, &line);
+    let array = fields.array::<u32>()?;
+    assert_eq!(rt; array.as_slice(), [300, 7].as_slice());
+    let blank = fields.blank::<u8>()?;
+    assert_eq!(rt; blank.as_slice(), [9].as_slice());
+    Ok(())
+}
+
+// More elements than a place of the caller's has.
+#[test]
+fn reads_an_array_of_any_length(rt: HostRuntime) -> Result<(), Fail> {
+    let alloc = rt.alloc();
+    let line = vec![in alloc; MOST as u64 + 1; MOST + 2]?;
+    let mut fields = Fields::new(alloc, &line);
+    let array = fields.array::<u32>()?;
+    assert_eq!(rt; array.len(), MOST + 1);
+    Ok(fields.expect_end()?)
+}
+
+#[test]
+fn reads_a_line_without_memory(rt: HostRuntime) -> Result<(), Fail> {
+    let line = [2, 300, 7, 1, 0];
+    let mut fields = Fields::without_memory(&line);
     let mut array = ArrayVec::<u32, MOST>::new();
-    fields.array(&mut array)?;
+    fields.array_into(&mut array)?;
     assert_eq!(rt; array.as_slice(), [300, 7].as_slice());
     let mut blank = ArrayVec::<u8, MOST>::new();
-    fields.blank(&mut blank)?;
+    fields.blank_into(&mut blank)?;
     assert_eq!(rt; blank.as_slice(), [9].as_slice());
     Ok(())
 }

@@ -20,7 +20,7 @@ mod recordings;
 mod tests;
 mod totals;
 
-// Whether the call that the first number names gives what stands behind. A line for which there is no memory is not right.
+// Whether the call that the first number names gives what stands behind. A line with an array of more than `MOST` elements is not right.
 pub fn replay(line: &[u64]) -> bool
     ensures { result ≡ true → NamesKind line.now }
 {
@@ -31,7 +31,7 @@ pub fn replay(line: &[u64]) -> bool
 fn replay_line(line: &[u64]) -> Result<(), Fault>
     ensures { OnOk result (NamesKind line.now) }
 {
-    let mut fields = Fields::new(line);
+    let mut fields = Fields::without_memory(line);
     let kind = Kind::try_from(fields.number::<u64>()?)?;
     replay_kind(kind, &mut fields)?;
     Ok(fields.expect_end()?)

@@ -20,13 +20,13 @@ pub fn read_list(fields: &mut Fields<'_>) -> Result<(), Fault>
     let page_size = page_size(fields)?;
     let head = fields.number()?;
     let mut store = ArrayVec::new();
-    fields.array(&mut store)?;
+    fields.array_into(&mut store)?;
     let mut pages = ArrayVec::new();
-    fields.blank(&mut pages)?;
+    fields.blank_into(&mut pages)?;
     let mut entries = ArrayVec::new();
-    fields.blank(&mut entries)?;
+    fields.blank_into(&mut entries)?;
     let mut map = ArrayVec::new();
-    fields.blank(&mut map)?;
+    fields.blank_into(&mut map)?;
     let mut out = BLANK_OUT;
     let status = calls::lists::read_list(
         page_size,
@@ -96,9 +96,9 @@ pub fn hand_out(fields: &mut Fields<'_>) -> Result<(), Fault>
 {
     let save = Opened::take(fields)?;
     let mut pages = ArrayVec::new();
-    fields.array(&mut pages)?;
+    fields.array_into(&mut pages)?;
     let mut entries = ArrayVec::new();
-    fields.array(&mut entries)?;
+    fields.array_into(&mut entries)?;
     let mut out = BLANK_OUT;
     let status = saves::hand_out(
         save.page_size,
@@ -120,17 +120,17 @@ pub fn finish(fields: &mut Fields<'_>) -> Result<(), Fault>
 {
     let save = Opened::take(fields)?;
     let mut pages = ArrayVec::new();
-    fields.array(&mut pages)?;
+    fields.array_into(&mut pages)?;
     let mut entries = ArrayVec::new();
-    fields.array(&mut entries)?;
+    fields.array_into(&mut entries)?;
     let mut freed = ArrayVec::new();
-    fields.array(&mut freed)?;
+    fields.array_into(&mut freed)?;
     let mut buffer = ArrayVec::new();
-    fields.blank(&mut buffer)?;
+    fields.blank_into(&mut buffer)?;
     let mut numbers = ArrayVec::new();
-    fields.blank(&mut numbers)?;
+    fields.blank_into(&mut numbers)?;
     let mut map = ArrayVec::new();
-    fields.blank(&mut map)?;
+    fields.blank_into(&mut map)?;
     let mut out = BLANK_OUT;
     let status = saves::finish(
         save.page_size,

@@ -17,11 +17,11 @@ pub fn lookup(fields: &mut Fields<'_>) -> Result<(), Fault>
     let page_size = page_size(fields)?;
     let number = fields.number()?;
     let mut numbers = ArrayVec::new();
-    fields.array(&mut numbers)?;
+    fields.array_into(&mut numbers)?;
     let mut pending = ArrayVec::new();
-    fields.array(&mut pending)?;
+    fields.array_into(&mut pending)?;
     let mut store = ArrayVec::new();
-    fields.array(&mut store)?;
+    fields.array_into(&mut store)?;
     let mut out = BLANK_OUT;
     let status = calls::lookups::lookup(page_size, &numbers, &pending, &store, number, &mut out);
     let page = lookup::lookup::lookup(

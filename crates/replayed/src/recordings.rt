@@ -11,9 +11,9 @@ pub fn columns(fields: &mut Fields<'_>) -> Result<(), Fault>
     ensures { OnOk result (TakesAtLeast 3 fields.old fields.new) }
 {
     let mut rows = ArrayVec::new();
-    fields.array(&mut rows)?;
+    fields.array_into(&mut rows)?;
     let mut columns = ArrayVec::new();
-    fields.blank(&mut columns)?;
+    fields.blank_into(&mut columns)?;
     let status = calls::recordings::columns(&rows, &mut columns);
     Ok(fields.expect_reply(status, &columns)?)
 }
@@ -23,9 +23,9 @@ pub fn rows(fields: &mut Fields<'_>) -> Result<(), Fault>
     ensures { OnOk result (TakesAtLeast 3 fields.old fields.new) }
 {
     let mut columns = ArrayVec::new();
-    fields.array(&mut columns)?;
+    fields.array_into(&mut columns)?;
     let mut rows = ArrayVec::new();
-    fields.blank(&mut rows)?;
+    fields.blank_into(&mut rows)?;
     let status = calls::recordings::rows(&columns, &mut rows);
     Ok(fields.expect_reply(status, &rows)?)
 }

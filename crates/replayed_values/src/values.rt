@@ -34,11 +34,11 @@ fn write_page_by(fields: &mut Fields<'_>, rule: TotalRule) -> Result<(), Fault>
     let page_size = page_size(fields)?;
     let index = fields.number()?;
     let mut value = ArrayVec::new();
-    fields.array(&mut value)?;
+    fields.array_into(&mut value)?;
     let mut numbers = ArrayVec::new();
-    fields.array(&mut numbers)?;
+    fields.array_into(&mut numbers)?;
     let mut page = ArrayVec::new();
-    fields.blank(&mut page)?;
+    fields.blank_into(&mut page)?;
     let status = values::write_value_page(page_size, rule, &value, &numbers, index, &mut page);
     Ok(fields.expect_reply(status, &page)?)
 }
@@ -49,11 +49,11 @@ pub fn encode_cell(fields: &mut Fields<'_>) -> Result<(), Fault>
 {
     let size = fields.number()?;
     let mut hash = ArrayVec::new();
-    fields.array::<u8>(&mut hash)?;
+    fields.array_into::<u8>(&mut hash)?;
     let mut numbers = ArrayVec::new();
-    fields.array(&mut numbers)?;
+    fields.array_into(&mut numbers)?;
     let mut cell = ArrayVec::new();
-    fields.blank(&mut cell)?;
+    fields.blank_into(&mut cell)?;
     let hash = hash.as_array().ok_or(WrongLine)?;
     let status = values::encode_cell(PageSize::standard(), size, hash, &numbers, &mut cell);
     Ok(fields.expect_reply(status, &cell)?)
@@ -64,7 +64,7 @@ pub fn decode_cell(fields: &mut Fields<'_>) -> Result<(), Fault>
     ensures { OnOk result (TakesAtLeast 42 fields.old fields.new) }
 {
     let mut cell = ArrayVec::new();
-    fields.array(&mut cell)?;
+    fields.array_into(&mut cell)?;
     let mut hash = [FILLER; 32];
     let mut out = BLANK_OUT;
     let status = values::decode_cell(PageSize::standard(), &cell, &mut hash, &mut out);
@@ -78,13 +78,13 @@ pub fn read_value(fields: &mut Fields<'_>) -> Result<(), Fault>
 {
     let page_size = page_size(fields)?;
     let mut cell = ArrayVec::new();
-    fields.array(&mut cell)?;
+    fields.array_into(&mut cell)?;
     let mut store = ArrayVec::new();
-    fields.array(&mut store)?;
+    fields.array_into(&mut store)?;
     let mut numbers = ArrayVec::new();
-    fields.blank(&mut numbers)?;
+    fields.blank_into(&mut numbers)?;
     let mut value = ArrayVec::new();
-    fields.blank(&mut value)?;
+    fields.blank_into(&mut value)?;
     let mut out = BLANK_OUT;
     let status = values::read_value(page_size, &cell, &store, &mut numbers, &mut value, &mut out);
     if status == 0 {
@@ -118,11 +118,11 @@ pub fn delete_value(fields: &mut Fields<'_>) -> Result<(), Fault>
 {
     let page_size = page_size(fields)?;
     let mut cell = ArrayVec::new();
-    fields.array(&mut cell)?;
+    fields.array_into(&mut cell)?;
     let mut store = ArrayVec::new();
-    fields.array(&mut store)?;
+    fields.array_into(&mut store)?;
     let mut numbers = ArrayVec::new();
-    fields.blank(&mut numbers)?;
+    fields.blank_into(&mut numbers)?;
     let mut out = BLANK_OUT;
     let status = values::delete_value(page_size, &cell, &store, &mut numbers, &mut out);
     fields.expect_reply(status, &out)?;

@@ -3,7 +3,7 @@
 use Rattle.std.proofs.Common.{◌≡◌}
 use Rattle.std.specs.List.{AllClonesOf}
 use Rattle.arrayvec.specs.ArrayVec.{array_vec_len}
-use Rattle.record_line.proofs.fields.Fields.blank.Given as goal
+use Rattle.record_line.proofs.fields.Fields.blank_into.Given as goal
 
 abbrev pub invariant-loop-i : goal.invariant-loop-i
 invariant-loop-i g l =
