@@ -8,5 +8,5 @@ pub mod reading;
 mod tests;
 pub mod text;
 
-// A line has at most so many numbers, and so none of its arrays has more elements.
+// A line that is read byte by byte has at most so many numbers, and an array in a place that is lent for it at most so many elements.
 pub const MOST: usize = 32768;
